@@ -1,0 +1,86 @@
+-- The eleven cases that document 01 marks, as one list.
+use Prim.Native.Nat.{ℕ}
+use Prim.Native.String.{String}
+use mathlib.Core.Path.{_≡_, refl}
+use mathlib.Core.List.{List, [], _∷_, _++_, map}
+use lib.Dec.{eqb}
+use lib.ListN.{take, replicate}
+use Rattle.rules.specs.Memory.{pick, upd}
+use Rattle.rules.specs.Settings.{Settings}
+use Rattle.rules.specs.Step.{remote}
+use Rattle.rules.specs.Course.{turn}
+use Rattle.rules.specs.Play.{whole, play, after, taking}
+use Rattle.rules.specs.Ticket as ticket
+use Rattle.rules.specs.Mcs as mcs
+use Rattle.rules.specs.Central as central
+use Rattle.rules.specs.Dissem as dissem
+use Rattle.rules.specs.Dissem.{doublings, doubled}
+use Rattle.rules.specs.Machines.{bytes}
+use Rattle.rules.specs.Rule.{lit, letters, word, digits, number}
+use Rattle.rules.specs.File as file
+use Rattle.rules.specs.File.{decimalIn, decimal, rows, items, turns, front, rest}
+use Rattle.rules.specs.Calls.{inRow, inRange, allBelow, refusal, readingOf, reading, Record, ran, running}
+
+-- what the program shows of a file: its lines turns, stop and remote, the p lines, the events; or refused and place
+pub data Shown : Type 0 where
+  shows : (turns stop remote : ℕ) → List Record → List ℕ → Shown
+  refused : (number place : ℕ) → Shown
+
+abbrev pub p : (done remote most spins idle : ℕ) → Record
+p done remote most spins idle = record { done = done; remote = remote; most = most; spins = spins; idle = idle }
+
+-- the lent buffers, long enough for these cases
+abbrev pub played : Settings → List ℕ → Shown
+played s ts =
+    let r = running s ts (replicate 64 0) (replicate 4 (p 0 0 0 0 0)) in
+    shows (r .answer .turns) (r .answer .stop) (r .answer .total) (take (s .procs) (r .table)) (take (r .answer .events) (r .events))
+
+abbrev pub shown : List ℕ → Shown
+shown f =
+    let r = reading f (replicate 32 0) in
+    pick (eqb (r .answer .number) 0)
+    (played (r .answer .settings) (take (r .answer .count) (r .schedule)))
+    (refused (r .answer .number) (r .answer .place))
+
+-- a case: a file and what is shown of it, or numbers P and R for each
+pub data Case : Type 0 where
+  gives : List ℕ → Shown → Case
+  doubles : List ℕ → List ℕ → Case
+
+abbrev pub Holds : Case → Type 0
+Holds (gives f o) = shown f ≡ o
+Holds (doubles ps rs) = map doublings ps ≡ rs
+
+abbrev pub All : List Case → Type 0
+All [] = Unit {0}
+All (c ∷ l) = Holds c × All l
+
+-- input A, with this name, ticket, budget and turns
+abbrev pub inputA : (algo ticket budget turns : String) → List ℕ
+inputA algo ticket budget turns =
+    bytes "algo=" ++ bytes algo ++ bytes "\nprocs=2\nhome=0\nticket=" ++ bytes ticket ++ bytes "\nbudget=" ++ bytes budget
+    ++ bytes "\np0=1,0\np1=1,0\nturns=" ++ bytes turns ++ bytes "\n"
+
+unfoldable pub cases : List Case
+cases =
+    gives (inputA "mcs" "0" "16384" "0,0,1,1,0,0,0,1,1,1,0,0,1,1,1,0")
+    (shows 16 0 4 (p 1 1 1 1 1 ∷ p 1 3 3 1 0 ∷ []) (256 ∷ 512 ∷ 257 ∷ 768 ∷ 513 ∷ 769 ∷ []))
+    ∷ gives (inputA "mcs" "0" "2" "0,0,1,1,0,0,0,1,1,1,0,0,1,1,1,0")
+    (shows 11 1 2 (p 0 0 0 1 0 ∷ p 0 2 2 1 0 ∷ []) (256 ∷ 512 ∷ 257 ∷ []))
+    ∷ gives (inputA "ticket" "65535" "16384" "0,1,1,0,0,1,1")
+    (shows 7 0 4 (p 1 0 0 0 0 ∷ p 1 4 4 1 0 ∷ []) (256 ∷ 257 ∷ 512 ∷ 768 ∷ 513 ∷ 769 ∷ []))
+    ∷ gives (inputA "dissem" "0" "16384" "0,0,1,1,0")
+    (shows 5 0 2 (p 1 1 1 1 0 ∷ p 1 1 1 0 0 ∷ []) (1024 ∷ 1025 ∷ 1281 ∷ 1280 ∷ []))
+    ∷ gives (bytes "algo=central\nprocs=1\nhome=0\nticket=0\nbudget=16384\np0=1,0\nturns=0,0,0\n")
+    (shows 3 0 0 (p 1 0 0 0 0 ∷ []) (1024 ∷ 1280 ∷ []))
+    ∷ doubles (1 ∷ 2 ∷ 3 ∷ 4 ∷ 5 ∷ 64 ∷ []) (0 ∷ 1 ∷ 2 ∷ 2 ∷ 3 ∷ 6 ∷ [])
+    ∷ gives [] (refused 1 0)
+    ∷ gives (bytes "algo=" ++ 181 ∷ []) (refused 1 5)
+    ∷ gives (bytes "algo=mcz\n") (refused 2 5)
+    ∷ gives (bytes "algo=mcs\nprocs=07\n") (refused 1 16)
+    ∷ gives (bytes "algo=mcs\nprocs=2\nhome=2\n") (refused 3 22)
+    ∷ []
+
+pub all-hold : All cases
+unfolding cases upd remote turn whole play after taking ticket.step mcs.step central.step dissem.step doublings doubled lit letters word digits number decimalIn decimal rows items turns front rest file.whole file.file inRow inRange allBelow refusal readingOf ran running
+all-hold = (refl, (refl, (refl, (refl, (refl, (refl, (refl, (refl, (refl, (refl, (refl, tt)))))))))))

@@ -1,0 +1,16 @@
+pub mod Memory
+pub mod Bounds
+pub mod Settings
+pub mod Step
+pub mod Course
+pub mod Tally
+pub mod Play
+pub mod Ticket
+pub mod Mcs
+pub mod Central
+pub mod Dissem
+pub mod Machines
+pub mod Rule
+pub mod File
+pub mod Calls
+pub mod Cases

@@ -1,0 +1,53 @@
+-- The ticket lock (figure 2). At home live the request counter, variable 0, and the release counter, variable 1.
+-- A processor keeps its ticket for itself.
+use Prim.Native.Nat.{ℕ, _+_, _%_}
+use mathlib.Core.Bool.{Bool, true, false}
+use lib.Dec.{eqb}
+use Rattle.rules.specs.Memory.{pick, upd, each}
+use Rattle.rules.specs.Bounds.{mostTicket}
+use Rattle.rules.specs.Settings.{Settings}
+use Rattle.rules.specs.Step.{reads, atomics, nothing, one, join, grant, release, stay, to, over, Step, Machine}
+
+pub record State : Type 0 where
+  pub request : ℕ
+  pub release : ℕ
+  pub mine : ℕ → ℕ
+
+-- after 65535 comes 0
+abbrev pub up : ℕ → ℕ
+up n = (n + 1) % (mostTicket + 1)
+
+-- 1: fetch-and-increment the request counter
+abbrev pub asks : Settings → State → ℕ → Step State
+asks s x i = record {
+  memory = record { request = up (x .request); release = x .release; mine = upd (x .mine) i (x .request) };
+  access = atomics (s .home) 0;
+  says = one join;
+  then = to 2;
+}
+
+-- 2: read the release counter; it equals the own ticket, or not
+abbrev pub waits : Bool → Settings → State → Step State
+waits true s x = record { memory = x; access = reads (s .home) 1; says = one grant; then = to 3 }
+waits false s x = record { memory = x; access = reads (s .home) 1; says = nothing; then = stay }
+
+-- 3: add one to the release counter
+abbrev pub frees : Settings → State → Step State
+frees s x = record {
+  memory = record { request = x .request; release = up (x .release); mine = x .mine };
+  access = atomics (s .home) 1;
+  says = one release;
+  then = over;
+}
+
+unfoldable pub step : Settings → State → ℕ → ℕ → Step State
+step s x at i =
+    pick (eqb at 1) (asks s x i) (
+    pick (eqb at 2) (waits (eqb (x .release) (x .mine i)) s x) (
+    frees s x))
+
+abbrev pub start : Settings → State
+start s = record { request = s .ticket; release = s .ticket; mine = each 0 }
+
+abbrev pub machine : Machine
+machine = record { State = State; start = start; step = step }
