@@ -1,0 +1,229 @@
+-- All that is proved of the rules, on one page. proofs/All has the proofs.
+use Prim.Native.Nat.{ℕ, zero, suc, _+_, _*_, _^_, _%_, _≤_, _<_, min}
+use mathlib.Core.Path.{_≡_}
+use mathlib.Core.Logic.{_≢_, _⊎_}
+use mathlib.Core.Bool.{Bool, true, false}
+use mathlib.Core.List.{List, [], _∷_, _++_}
+use lib.Dec.{eqb}
+use lib.ListN.{length, take, replicate}
+use Rattle.rules.specs.Memory.{pick}
+use Rattle.rules.specs.Bounds.{mostProcs, mostTicket, mostBudget, mostRounds, mostHold, mostTurns, mostDigits, longestFile}
+use Rattle.rules.specs.Settings.{Settings, entry, noSettings}
+use Rattle.rules.specs.Step.{Access, remote, Kind, number, join, grant, release, Event, event, Machine}
+use Rattle.rules.specs.Tally.{access}
+use Rattle.rules.specs.Play.{Run, first, next, after, play, whole}
+use Rattle.rules.specs.Ticket as ticket
+use Rattle.rules.specs.Mcs as mcs
+use Rattle.rules.specs.Dissem.{doublings}
+use Rattle.rules.specs.Machines.{lock, numbered, machine}
+use Rattle.rules.specs.File.{text}
+use Rattle.rules.specs.Calls.{over, allBelow, refusal, Record, Reading, reading, Writing, writing, Running, running}
+use Rattle.rules.specs.Cases.{All, cases}
+
+-- ---- words
+
+-- a is a beginning of b
+pub record Prefix {A : Type 0} (a b : List A) : Type 0 where
+  pub rest : List A
+  pub adds : a ++ rest ≡ b
+
+-- those whom the events of this kind name, in order
+abbrev pub of : Kind → List Event → List ℕ
+of k [] = []
+of k (e ∷ es) = pick (eqb (number k) (number (e .kind))) (e .who ∷ of k es) (of k es)
+
+-- no turn of t is f's
+abbrev pub Without : ℕ → List ℕ → Type 0
+Without f [] = Unit {0}
+Without f (i ∷ t) = (i ≢ f) × Without f t
+
+-- f 0 + .. + f (n - 1)
+abbrev pub sum : (ℕ → ℕ) → ℕ → ℕ
+sum f zero = 0
+sum f (suc n) = sum f n + f n
+
+-- ---- beginnings
+
+-- r has all that r′ has, or less
+pub record Begins {S : Type 0} (r r′ : Run S) : Type 0 where
+  pub events : Prefix (r .events) (r′ .events)
+  pub taken : r .taken ≤ r′ .taken
+  pub total : r .tally .total ≤ r′ .tally .total
+  pub done : (i : ℕ) → r .course .done i ≤ r′ .course .done i
+  pub far : (i : ℕ) → r .tally .far i ≤ r′ .tally .far i
+  pub most : (i : ℕ) → r .tally .most i ≤ r′ .tally .most i
+  pub spins : (i : ℕ) → r .tally .spins i ≤ r′ .tally .spins i
+  pub idle : (i : ℕ) → r .tally .idle i ≤ r′ .tally .idle i
+
+-- the accesses of the turns of t that are taken from r on, each with who makes it
+unfoldable pub accesses : (m : Machine) → Settings → List ℕ → Run (m .State) → List (ℕ × Access)
+accesses m s [] r = []
+accesses m s (i ∷ t) r =
+    pick (eqb (after m s r i .taken) (r .taken)) [] ((i, access (next m s r i)) ∷ []) ++ accesses m s t (after m s r i)
+
+-- how many of them are remote
+abbrev pub remotes : List (ℕ × Access) → ℕ
+remotes [] = 0
+remotes (a ∷ l) = remote (a .0) (a .1) + remotes l
+
+-- ---- the waiting line (demand 3)
+
+-- after the turns t, played by m
+pub record InLine (m : Machine) (s : Settings) (t : List ℕ) : Type 0 where
+  -- grants so far are the first so many joins, releases the first so many grants, grants exceed releases by at most one
+  pub granted : Prefix (of grant (whole m s t .events)) (of join (whole m s t .events))
+  pub released : Prefix (of release (whole m s t .events)) (of grant (whole m s t .events))
+  pub one-holder : length (of grant (whole m s t .events)) ≤ suc (length (of release (whole m s t .events)))
+  -- where nobody holds and f is the first in line, whatever turns u of others come next: the next turn of f, if taken, adds f's grant and nothing else
+  pub first-next : length (of grant (whole m s t .events)) ≡ length (of release (whole m s t .events))
+      → (f : ℕ) (rest : List ℕ) → of join (whole m s t .events) ≡ of grant (whole m s t .events) ++ f ∷ rest
+      → (u : List ℕ) → allBelow (s .procs) u ≡ true → Without f u
+      → whole m s (t ++ u ++ f ∷ []) .taken ≡ suc (whole m s (t ++ u) .taken)
+      → whole m s (t ++ u ++ f ∷ []) .events ≡ whole m s (t ++ u) .events ++ event grant f ∷ []
+
+-- a run of a lock: of ticket, with no more processors than there are tickets, or of mcs
+pub data LockRun : Machine → Settings → List ℕ → Type 1 where
+  ticket-run : {s : Settings} {t : List ℕ} → s .procs ≤ mostTicket + 1 → s .ticket ≤ mostTicket → allBelow (s .procs) t ≡ true → LockRun ticket.machine s t
+  queue-run : {s : Settings} {t : List ℕ} → allBelow (s .procs) t ≡ true → LockRun mcs.machine s t
+
+-- the request counter is at most so far past the release counter, modulo 65536
+pub record Within (far : ℕ) (x : ticket.State) : Type 0 where
+  pub distance : ℕ
+  pub at-most : distance ≤ far
+  pub apart : x .request ≡ (x .release + distance) % (mostTicket + 1)
+
+-- who comes next after k grants is f: f had the next grant, or there was none yet and f is the first in line
+pub data ComesNext (k f : ℕ) (es : List Event) : Type 0 where
+  was-granted : (a b : List ℕ) → length a ≡ k → of grant es ≡ a ++ f ∷ b → ComesNext k f es
+  is-first : (b : List ℕ) → length (of grant es) ≡ k → of join es ≡ of grant es ++ f ∷ b → ComesNext k f es
+
+-- ---- refusals
+
+-- 2 applies
+abbrev pub Unknown : Settings → Type 0
+Unknown s = (s .algo < 1) ⊎ (4 < s .algo)
+
+-- 3 applies: a value outside its range, or an entry for a processor from P on that is not zero
+pub data Outside (s : Settings) : Type 0 where
+  procs-low : s .procs < 1 → Outside s
+  procs-high : mostProcs < s .procs → Outside s
+  home-high : s .procs ≤ s .home → Outside s
+  ticket-high : mostTicket < s .ticket → Outside s
+  budget-high : mostBudget < s .budget → Outside s
+  rounds-high : (i : ℕ) → i < s .procs → mostRounds < entry (s .rounds) i → Outside s
+  hold-high : (i : ℕ) → i < s .procs → mostHold < entry (s .hold) i → Outside s
+  rounds-past : (i : ℕ) → s .procs ≤ i → entry (s .rounds) i ≢ 0 → Outside s
+  hold-past : (i : ℕ) → s .procs ≤ i → entry (s .hold) i ≢ 0 → Outside s
+
+-- 5 applies
+abbrev pub TooMany : List ℕ → Type 0
+TooMany t = mostTurns < length t
+
+-- 4 applies: a turn names a processor not below procs
+pub record Stray (procs : ℕ) (t : List ℕ) : Type 0 where
+  pub before : List ℕ
+  pub who : ℕ
+  pub behind : List ℕ
+  pub is : t ≡ before ++ who ∷ behind
+  pub not-below : procs ≤ who
+
+-- the first of 2, 3, 5, 4, 6 that applies, or 0
+pub data First (two three five four six : Type 0) : ℕ → Type 0 where
+  gives-2 : two → First two three five four six 2
+  gives-3 : ¬ two → three → First two three five four six 3
+  gives-5 : ¬ two → ¬ three → five → First two three five four six 5
+  gives-4 : ¬ two → ¬ three → ¬ five → four → First two three five four six 4
+  gives-6 : ¬ two → ¬ three → ¬ five → ¬ four → six → First two three five four six 6
+  gives-0 : ¬ two → ¬ three → ¬ five → ¬ four → ¬ six → First two three five four six 0
+
+-- ---- files
+
+-- the settings and the turns that read gave
+abbrev pub settingsOf : Reading → Settings
+settingsOf r = r .answer .settings
+
+abbrev pub turnsOf : Reading → List ℕ
+turnsOf r = take (r .answer .count) (r .schedule)
+
+-- the file that write gave
+abbrev pub fileOf : Writing → List ℕ
+fileOf w = take (w .answer .count) (w .out)
+
+-- no answer of read goes by a byte from this place on: the longest file with a comma for its last line feed, a number too many, its separator
+abbrev pub farthest : ℕ
+farthest = longestFile + mostDigits + 1
+
+-- ---- a passage that makes four references: processor 2 finds processor 1 in line before it, and is found by 0 as it leaves
+
+abbrev pub threeBoards : Settings
+threeBoards =
+    record { algo = 2; procs = 3; home = 0; ticket = 0; budget = 16384; rounds = 1 ∷ 1 ∷ 1 ∷ []; hold = [] }
+
+abbrev pub fourTurns : List ℕ
+fourTurns = 1 ∷ 1 ∷ 2 ∷ 2 ∷ 2 ∷ 2 ∷ 1 ∷ 1 ∷ 2 ∷ 2 ∷ 0 ∷ 0 ∷ 2 ∷ 0 ∷ 0 ∷ 2 ∷ 2 ∷ []
+
+pub record Laws : Type 1 where
+  -- the eleven marked cases of document 01
+  pub cases : All cases
+  -- BEGINNINGS, of any machine. The run over t and u is the run over t, continued with u; it has all that the run over t has.
+  pub continued : (m : Machine) (s : Settings) (t u : List ℕ) → whole m s (t ++ u) ≡ play m s u (whole m s t)
+  pub beginnings : (m : Machine) (s : Settings) (t u : List ℕ) → Begins (whole m s t) (whole m s (t ++ u))
+  -- of the turns t it takes as many with u as without
+  pub taken : (m : Machine) (s : Settings) (t u : List ℕ) → whole m s t .taken ≡ min (length t) (whole m s (t ++ u) .taken)
+  -- after a stop by the budget nothing more is taken
+  pub stopped : (m : Machine) (s : Settings) (t u : List ℕ) → whole m s t .stopped ≡ true → whole m s (t ++ u) ≡ whole m s t
+  -- the total keeps to the budget; it is the number of remote accesses of the turns taken, and the sum of the processors' numbers
+  pub budget : (m : Machine) (s : Settings) (t : List ℕ) → whole m s t .tally .total ≤ s .budget
+  pub total-counted : (m : Machine) (s : Settings) (t : List ℕ) → whole m s t .tally .total ≡ remotes (accesses m s t (first m s))
+  pub total-summed : (m : Machine) (s : Settings) (t : List ℕ) → allBelow (s .procs) t ≡ true → sum (whole m s t .tally .far) (s .procs) ≡ whole m s t .tally .total
+  -- LINE: demand 3, for every lock run; and after every turn of an accepted call, and of the schedule of an accepted file, that names a lock
+  pub line : (m : Machine) (s : Settings) (t : List ℕ) → LockRun m s t → InLine m s t
+  pub line-accepted : (s : Settings) (t u : List ℕ) (roomy : Bool) → refusal s (t ++ u) roomy ≡ 0 → numbered (s .algo) .sort ≡ lock
+      → InLine (machine (s .algo)) s t
+  pub line-file : (bytes schedule : List ℕ)
+      → (let r : Reading = reading bytes schedule in
+      r .answer .number ≡ 0 → numbered (settingsOf r .algo) .sort ≡ lock
+      → (t u : List ℕ) → t ++ u ≡ turnsOf r → InLine (machine (settingsOf r .algo)) (settingsOf r) t)
+  pub distance : (s : Settings) (t : List ℕ) → LockRun ticket.machine s t → Within (s .procs) (whole ticket.machine s t .memory)
+  -- AGREE: two lock runs, the joins of the one a beginning of the other's, never disagree on who comes next
+  pub agree : (m n : Machine) (s w : Settings) (t u : List ℕ) → LockRun m s t → LockRun n w u
+      → Prefix (of join (whole m s t .events)) (of join (whole n w u .events))
+      → (k f g : ℕ) → ComesNext k f (whole m s t .events) → ComesNext k g (whole n w u .events) → f ≡ g
+  -- FOUR: in the queue lock no passage, finished or not, makes more than four remote references; one makes four
+  pub four : (s : Settings) (t : List ℕ) (i : ℕ) → whole mcs.machine s t .tally .most i ≤ 4
+  pub four-reached : whole mcs.machine threeBoards fourTurns .tally .most 2 ≡ 4
+  -- REFUSALS: for all settings, schedules and lent buffers
+  pub refusals-write : (s : Settings) (t out : List ℕ)
+      → First (Unknown s) (Outside s) (TooMany t) (Stray (s .procs) t) (length out < length (text s t)) (writing s t out .answer .number)
+  pub refusals-run : (s : Settings) (t events : List ℕ) (table : List Record)
+      → First (Unknown s) (Outside s) (TooMany t) (Stray (s .procs) t) ((length table < s .procs) ⊎ (length events < 2 * length t))
+      (running s t events table .answer .number)
+  -- a refusal leaves every lent buffer as it was and answers zeros
+  pub untouched-read : (bytes schedule : List ℕ) (n : ℕ)
+      → (let r : Reading = reading bytes schedule in
+      r .answer .number ≡ suc n
+      → r ≡ record { answer = record { number = suc n; place = r .answer .place; settings = noSettings; count = 0 }; schedule = schedule })
+  pub untouched-write : (s : Settings) (t out : List ℕ) (n : ℕ)
+      → writing s t out .answer .number ≡ suc n → writing s t out ≡ record { answer = record { number = suc n; count = 0 }; out = out }
+  pub untouched-run : (s : Settings) (t events : List ℕ) (table : List Record) (n : ℕ)
+      → running s t events table .answer .number ≡ suc n
+      → running s t events table ≡ record { answer = record { number = suc n; turns = 0; stop = 0; events = 0; total = 0 }; events = events; table = table }
+  -- ROUND TRIPS: what read accepted, write gives back byte for byte where it has room; what write accepted, read gives back
+  pub read-write : (bytes schedule out : List ℕ)
+      → (let r : Reading = reading bytes schedule in
+      r .answer .number ≡ 0 → length bytes ≤ length out
+      → writing (settingsOf r) (turnsOf r) out ≡ record { answer = record { number = 0; count = length bytes }; out = over bytes out })
+  pub write-read : (s : Settings) (t out schedule : List ℕ)
+      → length (s .rounds) ≡ mostProcs → length (s .hold) ≡ mostProcs
+      → (let w : Writing = writing s t out in
+      w .answer .number ≡ 0 → length t ≤ length schedule
+      → reading (fileOf w) schedule ≡ record { answer = record { number = 0; place = 0; settings = s; count = length t }; schedule = over t schedule })
+  -- the longest accepted file has 50036 bytes, and there is one
+  pub longest : (bytes schedule : List ℕ) → reading bytes schedule .answer .number ≡ 0 → length bytes ≤ longestFile
+  pub longest-reached : (bytes : List ℕ) × (length bytes ≡ longestFile) × (reading bytes (replicate mostTurns 0) .answer .number ≡ 0)
+  -- no answer of read, and no number that it leaves in the schedule, goes by a byte from `farthest` on
+  pub cut : (bytes more schedule : List ℕ) → farthest ≤ length bytes → reading (bytes ++ more) schedule ≡ reading bytes schedule
+  pub farthest-below : farthest < 65536
+  -- DOUBLINGS: R doublings of 1 reach P, and no fewer do
+  pub doublings-reach : (p : ℕ) → p ≤ 2 ^ doublings p
+  pub doublings-least : (p k : ℕ) → p ≤ 2 ^ k → doublings p ≤ k
