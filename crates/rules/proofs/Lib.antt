@@ -1,2 +1,3 @@
 pub mod Store
 pub mod Accepted
+pub mod Plays
