@@ -110,7 +110,7 @@ picked : (b : Bool) (x y : ℕ) → (y ≡ 0 → ⊥) → pick b x y ≡ 0 → (
 picked true x y h e = (refl, e)
 picked false x y h e = absurd (h e)
 
-abbrev tests : Settings → List Bool
+abbrev pub tests : Settings → List Bool
 tests s =
     leb 1 (s .procs) ∷ leb (s .procs) mostProcs ∷ ltb (s .home) (s .procs) ∷ leb (s .ticket) mostTicket ∷ leb (s .budget) mostBudget
     ∷ inRow (s .procs) mostRounds 0 (s .rounds) ∷ inRow (s .procs) mostHold 0 (s .hold) ∷ []

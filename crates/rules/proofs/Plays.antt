@@ -14,7 +14,7 @@ use Rattle.rules.specs.Settings.{Settings, entry}
 use Rattle.rules.specs.Step.{Machine}
 use Rattle.rules.specs.Course.{Course, Turn, holds, idles, makes, turn}
 use Rattle.rules.specs.Play.{Run, first, taking, ended, after, play, whole}
-use Rattle.rules.proofs.Store.{by-test, left-of}
+use Rattle.rules.proofs.Store.{by-test, left-of, false-true}
 
 -- ---- one turn
 
@@ -88,6 +88,15 @@ module _ (m : Machine) (s : Settings) (r : Run (m .State)) (i : ℕ) where
 
   pub after-takes : r .stopped ≡ false → taking m s r i .tally .total ≤ s .budget → after m s r i ≡ taking m s r i
   after-takes e h = tested false true e (le-leb _ _ h)
+
+  -- a run that goes on has taken the turn
+  pub after-taken : after m s r i .stopped ≡ false → after m s r i ≡ taking m s r i
+  after-taken e = go (r .stopped) (leb (taking m s r i .tally .total) (s .budget)) refl refl
+    where
+      go : (x y : Bool) → r .stopped ≡ x → leb (taking m s r i .tally .total) (s .budget) ≡ y → after m s r i ≡ taking m s r i
+      go true y f h = absurd (false-true (sym e ∙ ap (λ (q : Run (m .State)). q .stopped) (tested true y f h) ∙ f))
+      go false true f h = tested false true f h
+      go false false f h = absurd (false-true (sym e ∙ ap (λ (q : Run (m .State)). q .stopped) (tested false false f h)))
 
   pub after-ends : r .stopped ≡ false → s .budget < taking m s r i .tally .total → after m s r i ≡ ended r
   after-ends e h = tested false false e (lt-leb _ _ h)

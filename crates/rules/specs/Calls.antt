@@ -65,12 +65,18 @@ pub record Reading : Type 0 where
   pub answer : ReadAnswer
   pub schedule : List ℕ
 
+abbrev pub refusedRead : (number place : ℕ) → List ℕ → Reading
+refusedRead number place schedule =
+    record { answer = record { number = number; place = place; settings = noSettings; count = 0 }; schedule = schedule }
+
+abbrev pub acceptedRead : Settings → List ℕ → List ℕ → Reading
+acceptedRead s turns schedule =
+    record { answer = record { number = 0; place = 0; settings = s; count = length turns }; schedule = over turns schedule }
+
 -- 6 comes last, at place 0
 unfoldable pub readingOf : Got (Settings × List ℕ) → List ℕ → Reading
-readingOf (ok v left at) schedule = pick (leb (length (v .1)) (length schedule))
-    (record { answer = record { number = 0; place = 0; settings = v .0; count = length (v .1) }; schedule = over (v .1) schedule })
-    (record { answer = record { number = 6; place = 0; settings = noSettings; count = 0 }; schedule = schedule })
-readingOf (fault n p) schedule = record { answer = record { number = n; place = p; settings = noSettings; count = 0 }; schedule = schedule }
+readingOf (ok v left at) schedule = pick (leb (length (v .1)) (length schedule)) (acceptedRead (v .0) (v .1) schedule) (refusedRead 6 0 schedule)
+readingOf (fault number place) schedule = refusedRead number place schedule
 
 abbrev pub reading : (bytes schedule : List ℕ) → Reading
 reading bytes schedule = readingOf (file bytes 0) schedule
@@ -85,6 +91,12 @@ pub record Writing : Type 0 where
   pub answer : WriteAnswer
   pub out : List ℕ
 
+abbrev pub refusedWrite : (number : ℕ) → List ℕ → Writing
+refusedWrite number out = record { answer = record { number = number; count = 0 }; out = out }
+
+abbrev pub acceptedWrite : Settings → List ℕ → List ℕ → Writing
+acceptedWrite s turns out = record { answer = record { number = 0; count = length (text s turns) }; out = over (text s turns) out }
+
 -- write needs room for the whole file
 abbrev pub writeRefusal : Settings → List ℕ → (room : ℕ) → ℕ
 writeRefusal s turns room = refusal s turns (leb (length (text s turns)) room)
@@ -92,9 +104,7 @@ writeRefusal s turns room = refusal s turns (leb (length (text s turns)) room)
 unfoldable pub writing : Settings → List ℕ → (out : List ℕ) → Writing
 writing s turns out =
     let n : ℕ = writeRefusal s turns (length out) in
-    pick (eqb n 0)
-    (record { answer = record { number = 0; count = length (text s turns) }; out = over (text s turns) out })
-    (record { answer = record { number = n; count = 0 }; out = out })
+    pick (eqb n 0) (acceptedWrite s turns out) (refusedWrite n out)
 
 -- ---- run
 
@@ -130,9 +140,13 @@ records r (suc n) i = record {
   idle = r .tally .idle i;
 } ∷ records r n (i + 1)
 
+abbrev pub refusedRun : (number : ℕ) → List ℕ → List Record → Running
+refusedRun number events table =
+    record { answer = record { number = number; turns = 0; stop = 0; events = 0; total = 0 }; events = events; table = table }
+
 -- stop is 0 where the schedule is used up, 1 for the budget
-unfoldable pub ran : {S : Type 0} → Settings → Run S → List ℕ → List Record → Running
-ran s r events table = record {
+unfoldable pub acceptedRun : {S : Type 0} → Settings → Run S → List ℕ → List Record → Running
+acceptedRun s r events table = record {
   answer = record { number = 0; turns = r .taken; stop = pick (r .stopped) 1 0; events = length (r .events); total = r .tally .total };
   events = over (map code (r .events)) events;
   table = over (records r (s .procs) 0) table;
@@ -145,6 +159,4 @@ runRefusal s turns events table = refusal s turns (leb (s .procs) table && leb (
 unfoldable pub running : Settings → List ℕ → (events : List ℕ) → (table : List Record) → Running
 running s turns events table =
     let n : ℕ = runRefusal s turns (length events) (length table) in
-    pick (eqb n 0)
-    (ran s (play.whole (machine (s .algo)) s turns) events table)
-    (record { answer = record { number = n; turns = 0; stop = 0; events = 0; total = 0 }; events = events; table = table })
+    pick (eqb n 0) (acceptedRun s (play.whole (machine (s .algo)) s turns) events table) (refusedRun n events table)

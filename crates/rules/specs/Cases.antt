@@ -19,7 +19,7 @@ use Rattle.rules.specs.Machines.{bytes}
 use Rattle.rules.specs.Rule.{lit, letters, word, digits, number}
 use Rattle.rules.specs.File as file
 use Rattle.rules.specs.File.{decimalIn, decimal, rows, items, turns, front, rest}
-use Rattle.rules.specs.Calls.{inRow, inRange, allBelow, refusal, readingOf, reading, Record, ran, running}
+use Rattle.rules.specs.Calls.{inRow, inRange, allBelow, refusal, readingOf, reading, Record, acceptedRun, running}
 
 -- what the program shows of a file: its lines turns, stop and remote, the p lines, the events; or refused and place
 pub data Shown : Type 0 where
@@ -82,5 +82,5 @@ cases =
     ∷ []
 
 pub all-hold : All cases
-unfolding cases upd remote turn whole play after taking ticket.step mcs.step central.step dissem.step doublings doubled lit letters word digits number decimalIn decimal rows items turns front rest file.whole file.file inRow inRange allBelow refusal readingOf ran running
+unfolding cases upd remote turn whole play after taking ticket.step mcs.step central.step dissem.step doublings doubled lit letters word digits number decimalIn decimal rows items turns front rest file.whole file.file inRow inRange allBelow refusal readingOf acceptedRun running
 all-hold = (refl, (refl, (refl, (refl, (refl, (refl, (refl, (refl, (refl, (refl, (refl, tt)))))))))))

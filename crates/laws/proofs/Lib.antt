@@ -1,0 +1,4 @@
+pub mod Beginnings
+pub mod Totals
+pub mod Doubling
+pub mod Refusals
