@@ -5,7 +5,6 @@ use mathlib.Core.List.{List, [], _∷_, _++_, append-nil, append-assoc}
 use Prim.Native.Nat.{ℕ, suc, _+_, _≤_, max, min}
 use native.Mathlib.Decide.{ℕ-discrete}
 use native.Mathlib.Omega.{arith}
-use lib.Dec.{leb}
 use lib.ListN.{length}
 use Rattle.rules.specs.Memory.{upd}
 use Rattle.rules.specs.Settings.{Settings}
@@ -14,7 +13,7 @@ use Rattle.rules.specs.Course as course
 use Rattle.rules.specs.Course.{Course, Turn, holds, idles, makes, ends}
 use Rattle.rules.specs.Tally.{Tally, spun, tally}
 use Rattle.rules.specs.Play.{Run, first, next, taking, ended, after, play, whole}
-use Rattle.rules.proofs.Store.{upd-same, upd-other, false-true}
+use Rattle.rules.proofs.Store.{upd-same, upd-other}
 use Rattle.rules.proofs.Plays as plays
 use Rattle.rules.proofs.Plays.{by-after, by-play, stopped-stays}
 use Rattle.rules.proofs.Counts.{taken-few}
@@ -124,12 +123,9 @@ module _ (m : Machine) (s : Settings) where
   all-taken : (t : List ℕ) (r : Run (m .State)) → play m s t r .stopped ≡ false → play m s t r .taken ≡ r .taken + length t
   unfolding play taking
   all-taken [] r e = omega arith
-  all-taken (i ∷ t) r e = go (after m s r i .stopped) refl (all-taken t (after m s r i) e)
-    where
-      go : (b : Bool) → after m s r i .stopped ≡ b → play m s t (after m s r i) .taken ≡ after m s r i .taken + length t
-          → play m s t (after m s r i) .taken ≡ r .taken + suc (length t)
-      go true f h = absurd (false-true (sym e ∙ ap (λ (q : Run (m .State)). q .stopped) (stopped-stays m s t (after m s r i) f) ∙ f))
-      go false f h = let k : after m s r i .taken ≡ r .taken + 1 = ap (λ (q : Run (m .State)). q .taken) (plays.after-taken m s r i f) in omega arith
+  all-taken (i ∷ t) r e =
+      let k : after m s r i .taken ≡ r .taken + 1 = ap (λ (q : Run (m .State)). q .taken) (plays.after-taken m s r i (plays.goes-on m s t (after m s r i) e)) in
+      omega (arith, all-taken t (after m s r i) e)
 
   pub taken : (t u : List ℕ) → whole m s t .taken ≡ min (length t) (whole m s (t ++ u) .taken)
   unfolding whole

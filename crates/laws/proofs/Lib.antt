@@ -1,4 +1,5 @@
 pub mod Beginnings
 pub mod Totals
+pub mod Courses
 pub mod Doubling
 pub mod Refusals

@@ -10,6 +10,7 @@ use Rattle.rules.specs.Memory.{pick}
 use Rattle.rules.specs.Bounds.{mostProcs, mostTicket, mostBudget, mostRounds, mostHold, mostTurns, mostDigits, longestFile}
 use Rattle.rules.specs.Settings.{Settings, entry, noSettings}
 use Rattle.rules.specs.Step.{Access, remote, Kind, number, join, grant, release, Event, event, Machine}
+use Rattle.rules.specs.Course.{holds, holding, says}
 use Rattle.rules.specs.Tally.{access}
 use Rattle.rules.specs.Play.{Run, first, next, after, play, whole}
 use Rattle.rules.specs.Ticket as ticket
@@ -36,6 +37,11 @@ of k (e ∷ es) = pick (eqb (number k) (number (e .kind))) (e .who ∷ of k es) 
 abbrev pub Without : ℕ → List ℕ → Type 0
 Without f [] = Unit {0}
 Without f (i ∷ t) = (i ≢ f) × Without f t
+
+-- how many turns of t are i's
+abbrev pub times : ℕ → List ℕ → ℕ
+times i [] = 0
+times i (j ∷ t) = pick (eqb j i) 1 0 + times i t
 
 -- f 0 + .. + f (n - 1)
 abbrev pub sum : (ℕ → ℕ) → ℕ → ℕ
@@ -153,77 +159,114 @@ fileOf w = take (w .answer .count) (w .out)
 abbrev pub farthest : ℕ
 farthest = longestFile + mostDigits + 1
 
--- ---- a passage that makes four references: processor 2 finds processor 1 in line before it, and is found by 0 as it leaves
-
+-- a passage that makes four references: processor 2 finds 1 in line before it, and 0 joins behind it while it leaves
 abbrev pub threeBoards : Settings
-threeBoards =
-    record { algo = 2; procs = 3; home = 0; ticket = 0; budget = 16384; rounds = 1 ∷ 1 ∷ 1 ∷ []; hold = [] }
+threeBoards = record { algo = 2; procs = 3; home = 0; ticket = 0; budget = 16384; rounds = 1 ∷ 1 ∷ 1 ∷ []; hold = [] }
 
 abbrev pub fourTurns : List ℕ
 fourTurns = 1 ∷ 1 ∷ 2 ∷ 2 ∷ 2 ∷ 2 ∷ 1 ∷ 1 ∷ 2 ∷ 2 ∷ 0 ∷ 0 ∷ 2 ∷ 0 ∷ 0 ∷ 2 ∷ 2 ∷ []
 
-pub record Laws : Type 1 where
-  -- the eleven marked cases of document 01
-  pub cases : All cases
-  -- BEGINNINGS, of any machine. The run over t and u is the run over t, continued with u; it has all that the run over t has.
+-- ---- the statements
+
+-- of any machine
+pub record Beginnings : Type 1 where
+  -- the run over t and u is the run over t, continued with u
   pub continued : (m : Machine) (s : Settings) (t u : List ℕ) → whole m s (t ++ u) ≡ play m s u (whole m s t)
-  pub beginnings : (m : Machine) (s : Settings) (t u : List ℕ) → Begins (whole m s t) (whole m s (t ++ u))
+  -- and has all that the run over t has
+  pub contains : (m : Machine) (s : Settings) (t u : List ℕ) → Begins (whole m s t) (whole m s (t ++ u))
   -- of the turns t it takes as many with u as without
   pub taken : (m : Machine) (s : Settings) (t u : List ℕ) → whole m s t .taken ≡ min (length t) (whole m s (t ++ u) .taken)
   -- after a stop by the budget nothing more is taken
   pub stopped : (m : Machine) (s : Settings) (t u : List ℕ) → whole m s t .stopped ≡ true → whole m s (t ++ u) ≡ whole m s t
   -- the total keeps to the budget; it is the number of remote accesses of the turns taken, and the sum of the processors' numbers
   pub budget : (m : Machine) (s : Settings) (t : List ℕ) → whole m s t .tally .total ≤ s .budget
-  pub total-counted : (m : Machine) (s : Settings) (t : List ℕ) → whole m s t .tally .total ≡ remotes (accesses m s t (first m s))
-  pub total-summed : (m : Machine) (s : Settings) (t : List ℕ) → allBelow (s .procs) t ≡ true → sum (whole m s t .tally .far) (s .procs) ≡ whole m s t .tally .total
-  -- LINE: demand 3, for every lock run; and after every turn of an accepted call, and of the schedule of an accepted file, that names a lock
-  pub line : (m : Machine) (s : Settings) (t : List ℕ) → LockRun m s t → InLine m s t
-  pub line-accepted : (s : Settings) (t u : List ℕ) (roomy : Bool) → refusal s (t ++ u) roomy ≡ 0 → numbered (s .algo) .sort ≡ lock
+  pub counted : (m : Machine) (s : Settings) (t : List ℕ) → whole m s t .tally .total ≡ remotes (accesses m s t (first m s))
+  pub summed : (m : Machine) (s : Settings) (t : List ℕ) → allBelow (s .procs) t ≡ true
+      → sum (whole m s t .tally .far) (s .procs) ≡ whole m s t .tally .total
+
+-- of any machine: rounds and hold turns
+pub record Courses : Type 1 where
+  -- nobody does more than its rounds
+  pub rounds : (m : Machine) (s : Settings) (t : List ℕ) (i : ℕ) → whole m s t .course .done i ≤ entry (s .rounds) i
+  -- where a turn of i says a grant or a leave, the next `hold` turns of i are hold turns, whatever turns u come between, and the one after is none
+  pub hold-turns : (m : Machine) (s : Settings) (t u : List ℕ) (i : ℕ)
+      → holding (says (next m s (whole m s t) i)) ≡ true → whole m s (t ++ i ∷ u) .stopped ≡ false
+      → times i u < entry (s .hold) i → next m s (whole m s (t ++ i ∷ u)) i ≡ holds
+  pub hold-over : (m : Machine) (s : Settings) (t u : List ℕ) (i : ℕ)
+      → holding (says (next m s (whole m s t) i)) ≡ true → whole m s (t ++ i ∷ u) .stopped ≡ false
+      → times i u ≡ entry (s .hold) i → next m s (whole m s (t ++ i ∷ u)) i ≢ holds
+
+-- demand 3: for every lock run; and after every turn of an accepted call, and of an accepted file's schedule, that names a lock
+pub record Line : Type 1 where
+  pub locks : (m : Machine) (s : Settings) (t : List ℕ) → LockRun m s t → InLine m s t
+  pub accepted : (s : Settings) (t u : List ℕ) (roomy : Bool) → refusal s (t ++ u) roomy ≡ 0 → numbered (s .algo) .sort ≡ lock
       → InLine (machine (s .algo)) s t
-  pub line-file : (bytes schedule : List ℕ)
+  pub files : (bytes schedule : List ℕ)
       → (let r : Reading = reading bytes schedule in
       r .answer .number ≡ 0 → numbered (settingsOf r .algo) .sort ≡ lock
       → (t u : List ℕ) → t ++ u ≡ turnsOf r → InLine (machine (settingsOf r .algo)) (settingsOf r) t)
-  pub distance : (s : Settings) (t : List ℕ) → LockRun ticket.machine s t → Within (s .procs) (whole ticket.machine s t .memory)
-  -- AGREE: two lock runs, the joins of the one a beginning of the other's, never disagree on who comes next
-  pub agree : (m n : Machine) (s w : Settings) (t u : List ℕ) → LockRun m s t → LockRun n w u
-      → Prefix (of join (whole m s t .events)) (of join (whole n w u .events))
-      → (k f g : ℕ) → ComesNext k f (whole m s t .events) → ComesNext k g (whole n w u .events) → f ≡ g
-  -- FOUR: in the queue lock no passage, finished or not, makes more than four remote references; one makes four
-  pub four : (s : Settings) (t : List ℕ) (i : ℕ) → whole mcs.machine s t .tally .most i ≤ 4
-  pub four-reached : whole mcs.machine threeBoards fourTurns .tally .most 2 ≡ 4
-  -- REFUSALS: for all settings, schedules and lent buffers
-  pub refusals-write : (s : Settings) (t out : List ℕ)
+
+-- for all settings, schedules and lent buffers
+pub record Refusals : Type 0 where
+  pub write : (s : Settings) (t out : List ℕ)
       → First (Unknown s) (Outside s) (TooMany t) (Stray (s .procs) t) (length out < length (text s t)) (writing s t out .answer .number)
-  pub refusals-run : (s : Settings) (t events : List ℕ) (table : List Record)
+  pub run : (s : Settings) (t events : List ℕ) (table : List Record)
       → First (Unknown s) (Outside s) (TooMany t) (Stray (s .procs) t) ((length table < s .procs) ⊎ (length events < 2 * length t))
       (running s t events table .answer .number)
-  -- a refusal leaves every lent buffer as it was and answers zeros
-  pub untouched-read : (bytes schedule : List ℕ) (n : ℕ)
+  -- a refusal answers zeros and leaves every lent buffer as it was
+  pub write-leaves : (s : Settings) (t out : List ℕ) (n : ℕ)
+      → writing s t out .answer .number ≡ suc n → writing s t out ≡ record { answer = record { number = suc n; count = 0 }; out = out }
+  pub run-leaves : (s : Settings) (t events : List ℕ) (table : List Record) (n : ℕ)
+      → running s t events table .answer .number ≡ suc n
+      → running s t events table
+      ≡ record { answer = record { number = suc n; turns = 0; stop = 0; events = 0; total = 0 }; events = events; table = table }
+  pub read-leaves : (bytes schedule : List ℕ) (n : ℕ)
       → (let r : Reading = reading bytes schedule in
       r .answer .number ≡ suc n
       → r ≡ record { answer = record { number = suc n; place = r .answer .place; settings = noSettings; count = 0 }; schedule = schedule })
-  pub untouched-write : (s : Settings) (t out : List ℕ) (n : ℕ)
-      → writing s t out .answer .number ≡ suc n → writing s t out ≡ record { answer = record { number = suc n; count = 0 }; out = out }
-  pub untouched-run : (s : Settings) (t events : List ℕ) (table : List Record) (n : ℕ)
-      → running s t events table .answer .number ≡ suc n
-      → running s t events table ≡ record { answer = record { number = suc n; turns = 0; stop = 0; events = 0; total = 0 }; events = events; table = table }
-  -- ROUND TRIPS: what read accepted, write gives back byte for byte where it has room; what write accepted, read gives back
+
+pub record Longest : Type 0 where
+  pub at-most : (bytes schedule : List ℕ) → reading bytes schedule .answer .number ≡ 0 → length bytes ≤ longestFile
+  -- no answer of read, and no number that it leaves in the schedule, goes by a byte from `farthest` on
+  pub cut : (bytes more schedule : List ℕ) → farthest ≤ length bytes → reading (bytes ++ more) schedule ≡ reading bytes schedule
+  pub in-buffer : farthest < 65536
+
+-- the bounds are reached
+pub record Reached : Type 0 where
+  pub four : whole mcs.machine threeBoards fourTurns .tally .most 2 ≡ 4
+  pub longest : (bytes : List ℕ) × (length bytes ≡ longestFile) × (reading bytes (replicate mostTurns 0) .answer .number ≡ 0)
+
+-- R doublings of 1 reach P, and no fewer do
+pub record Doublings : Type 0 where
+  pub reach : (p : ℕ) → p ≤ 2 ^ doublings p
+  pub least : (p k : ℕ) → p ≤ 2 ^ k → doublings p ≤ k
+
+pub record Laws : Type 1 where
+  -- the eleven cases that document 01 marks
+  pub cases : All cases
+  pub beginnings : Beginnings
+  pub courses : Courses
+  pub line : Line
+  -- the ticket lock's counters are at most P apart
+  pub distance : (s : Settings) (t : List ℕ) → LockRun ticket.machine s t → Within (s .procs) (whole ticket.machine s t .memory)
+  -- two lock runs, the joins of the one a beginning of the other's, never disagree on who comes next
+  pub agree : (m n : Machine) (s w : Settings) (t u : List ℕ) → LockRun m s t → LockRun n w u
+      → Prefix (of join (whole m s t .events)) (of join (whole n w u .events))
+      → (k f g : ℕ) → ComesNext k f (whole m s t .events) → ComesNext k g (whole n w u .events) → f ≡ g
+  -- in the queue lock no passage, finished or not, makes more than four remote references
+  pub four : (s : Settings) (t : List ℕ) (i : ℕ) → whole mcs.machine s t .tally .most i ≤ 4
+  pub refusals : Refusals
+  -- what read accepted, write gives back byte for byte where it has room
   pub read-write : (bytes schedule out : List ℕ)
       → (let r : Reading = reading bytes schedule in
       r .answer .number ≡ 0 → length bytes ≤ length out
       → writing (settingsOf r) (turnsOf r) out ≡ record { answer = record { number = 0; count = length bytes }; out = over bytes out })
+  -- what write accepted, read gives back, settings and schedule
   pub write-read : (s : Settings) (t out schedule : List ℕ)
       → length (s .rounds) ≡ mostProcs → length (s .hold) ≡ mostProcs
       → (let w : Writing = writing s t out in
       w .answer .number ≡ 0 → length t ≤ length schedule
       → reading (fileOf w) schedule ≡ record { answer = record { number = 0; place = 0; settings = s; count = length t }; schedule = over t schedule })
-  -- the longest accepted file has 50036 bytes, and there is one
-  pub longest : (bytes schedule : List ℕ) → reading bytes schedule .answer .number ≡ 0 → length bytes ≤ longestFile
-  pub longest-reached : (bytes : List ℕ) × (length bytes ≡ longestFile) × (reading bytes (replicate mostTurns 0) .answer .number ≡ 0)
-  -- no answer of read, and no number that it leaves in the schedule, goes by a byte from `farthest` on
-  pub cut : (bytes more schedule : List ℕ) → farthest ≤ length bytes → reading (bytes ++ more) schedule ≡ reading bytes schedule
-  pub farthest-below : farthest < 65536
-  -- DOUBLINGS: R doublings of 1 reach P, and no fewer do
-  pub doublings-reach : (p : ℕ) → p ≤ 2 ^ doublings p
-  pub doublings-least : (p k : ℕ) → p ≤ 2 ^ k → doublings p ≤ k
+  pub longest : Longest
+  pub reached : Reached
+  pub doublings : Doublings

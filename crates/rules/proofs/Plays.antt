@@ -56,6 +56,14 @@ module _ (m : Machine) (s : Settings) where
       stays : (r : Run (m .State)) (i : ℕ) → r .stopped ≡ true → after m s r i ≡ r
       stays r i e = rw e refl
 
+  -- a run that has not stopped had not stopped before
+  pub goes-on : (u : List ℕ) (r : Run (m .State)) → play m s u r .stopped ≡ false → r .stopped ≡ false
+  goes-on u r e = go (r .stopped) refl
+    where
+      go : (b : Bool) → r .stopped ≡ b → r .stopped ≡ false
+      go false f = f
+      go true f = absurd (false-true (sym e ∙ ap (λ (q : Run (m .State)). q .stopped) (stopped-stays u r f) ∙ f))
+
   -- the run over t and u is the run over t, continued with u
   pub continued : (t u : List ℕ) → whole m s (t ++ u) ≡ play m s u (whole m s t)
   unfolding whole
