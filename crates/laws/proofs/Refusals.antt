@@ -22,18 +22,23 @@ use Rattle.rules.proofs.Accepted.{Row, row-holds, Below, below, tests}
 use Rattle.laws.specs.Laws.{Unknown, Outside, procs-low, procs-high, home-high, ticket-high, budget-high, rounds-high, hold-high, rounds-past, hold-past, TooMany, Stray, First, gives-0, gives-2, gives-3, gives-4, gives-5, gives-6}
 
 -- a test that holds exactly where a refusal does not apply
-abbrev Settles : Bool → Type 0 → Type 0
-Settles b P = (b ≡ true → ¬ P) × (b ≡ false → P)
+data Settled (P : Type 0) : Bool → Type 0 where
+  not : ¬ P → Settled P true
+  so : P → Settled P false
+
+settled : (P : Type 0) (b : Bool) → (b ≡ true → ¬ P) → (b ≡ false → P) → Settled P b
+settled P true f g = not (f refl)
+settled P false f g = so (g refl)
 
 -- five such tests, one after the other
-first-of : (two three five four six : Type 0) (a b c d e : Bool) → Settles a two → Settles b three → Settles c five → Settles d four → Settles e six
+first-of : {two three five four six : Type 0} {a b c d e : Bool} → Settled two a → Settled three b → Settled five c → Settled four d → Settled six e
     → First two three five four six (pick a (pick b (pick c (pick d (pick e 0 6) 4) 5) 3) 2)
-first-of two three five four six false b c d e ha hb hc hd he = gives-2 (ha .1 refl)
-first-of two three five four six true false c d e ha hb hc hd he = gives-3 (ha .0 refl) (hb .1 refl)
-first-of two three five four six true true false d e ha hb hc hd he = gives-5 (ha .0 refl) (hb .0 refl) (hc .1 refl)
-first-of two three five four six true true true false e ha hb hc hd he = gives-4 (ha .0 refl) (hb .0 refl) (hc .0 refl) (hd .1 refl)
-first-of two three five four six true true true true false ha hb hc hd he = gives-6 (ha .0 refl) (hb .0 refl) (hc .0 refl) (hd .0 refl) (he .1 refl)
-first-of two three five four six true true true true true ha hb hc hd he = gives-0 (ha .0 refl) (hb .0 refl) (hc .0 refl) (hd .0 refl) (he .0 refl)
+first-of (so p) b c d e = search gives-2
+first-of (not p) (so q) c d e = search gives-3
+first-of (not p) (not q) (so r) d e = search gives-5
+first-of (not p) (not q) (not r) (so u) e = search gives-4
+first-of (not p) (not q) (not r) (not u) (so v) = search gives-6
+first-of (not p) (not q) (not r) (not u) (not v) = search gives-0
 
 -- ---- 2
 
@@ -50,8 +55,8 @@ known-number n l h = go (ℕ-discrete n 1) (ℕ-discrete n 2) (ℕ-discrete n 3)
 unknown-number : (n : ℕ) → n ≢ 1 → n ≢ 2 → n ≢ 3 → n ≢ 4 → known (numbered n) ≡ false
 unknown-number n a b c d = rw (ne-eqb n 1 a, ne-eqb n 2 b, ne-eqb n 3 c, ne-eqb n 4 d)
 
-settles-2 : (s : Settings) → Settles (known (numbered (s .algo))) (Unknown s)
-settles-2 s = (named, nameless)
+settles-2 : (s : Settings) → Settled (Unknown s) (known (numbered (s .algo)))
+settles-2 s = settled (Unknown s) _ named nameless
   where
     named : known (numbered (s .algo)) ≡ true → ¬ Unknown s
     named e (inl h) = false-true (sym (unknown-number (s .algo) (λ z. omega arith) (λ z. omega arith) (λ z. omega arith) (λ z. omega arith)) ∙ e)
@@ -97,9 +102,9 @@ misfit procs most k (x ∷ row) e = go (ltb k procs) refl (leb x most) refl (eqb
     go false f c g true h e rest = later (rest e)
     go false f c g false h e rest = let l = ltb-false k procs f in (0, inr (omega arith, eqb-false x 0 h))
 
-settles-3 : (s : Settings) → Settles (inRange s) (Outside s)
+settles-3 : (s : Settings) → Settled (Outside s) (inRange s)
 unfolding inRange
-settles-3 s = (within, without)
+settles-3 s = settled (Outside s) _ within without
   where
     within : inRange s ≡ true → ¬ Outside s
     within e =
@@ -142,8 +147,8 @@ settles-3 s = (within, without)
 
 -- ---- 5, 4, 6
 
-settles-leb : (a b : ℕ) → Settles (leb a b) (b < a)
-settles-leb a b = (λ e h. let l = leb-true a b e in omega arith, λ e. leb-false a b e)
+settles-leb : (a b : ℕ) → Settled (b < a) (leb a b)
+settles-leb a b = settled (b < a) _ (λ e h. let l = leb-true a b e in omega arith) (leb-false a b)
 
 no-stray : (p : ℕ) (before : List ℕ) (i : ℕ) (behind : List ℕ) → Below p (before ++ i ∷ behind) → i < p
 no-stray p [] i behind b = b .0
@@ -160,24 +165,24 @@ stray p (i ∷ t) e = go (ltb i p) refl e (stray p t)
         let w = rest e in
         record { before = i ∷ w .before; who = w .who; behind = w .behind; is = ap (λ (l : List ℕ). i ∷ l) (w .is); not-below = w .not-below }
 
-settles-4 : (p : ℕ) (t : List ℕ) → Settles (allBelow p t) (Stray p t)
-settles-4 p t = (λ e h. let l = no-stray p (h .before) (h .who) (h .behind) (rw (h .is) at (below p t e)) in let k = h .not-below in omega arith, stray p t)
+settles-4 : (p : ℕ) (t : List ℕ) → Settled (Stray p t) (allBelow p t)
+settles-4 p t =
+    settled (Stray p t) _
+    (λ e h. let l = no-stray p (h .before) (h .who) (h .behind) (rw (h .is) at (below p t e)) in omega (arith, h .not-below)) (stray p t)
 
-settles-and : (a b : Bool) (P Q : Type 0) → Settles a P → Settles b Q → Settles (a && b) (P ⊎ Q)
-settles-and a b P Q ha hb = (neither a b ha hb, some a b ha hb)
+settles-and : (a b : Bool) (P Q : Type 0) → Settled P a → Settled Q b → Settled (P ⊎ Q) (a && b)
+settles-and false b P Q (so p) h = so (inl p)
+settles-and true false P Q (not p) (so q) = so (inr q)
+settles-and true true P Q (not p) (not q) = not neither
   where
-    neither : (a b : Bool) → Settles a P → Settles b Q → (a && b) ≡ true → ¬ (P ⊎ Q)
-    neither a b ha hb e (inl p) = ha .0 (both a b e .0) p
-    neither a b ha hb e (inr q) = hb .0 (both a b e .1) q
+    neither : ¬ (P ⊎ Q)
+    neither (inl x) = p x
+    neither (inr x) = q x
 
-    some : (a b : Bool) → Settles a P → Settles b Q → (a && b) ≡ false → P ⊎ Q
-    some false b ha hb e = inl (ha .1 refl)
-    some true b ha hb e = inr (hb .1 e)
-
-refused-by : (s : Settings) (t : List ℕ) (roomy : Bool) (Short : Type 0) → Settles roomy Short
+refused-by : (s : Settings) (t : List ℕ) (roomy : Bool) (Short : Type 0) → Settled Short roomy
     → First (Unknown s) (Outside s) (TooMany t) (Stray (s .procs) t) Short (refusal s t roomy)
 unfolding refusal
-refused-by s t roomy Short h = first-of _ _ _ _ _ _ _ _ _ _ (settles-2 s) (settles-3 s) (settles-leb (length t) mostTurns) (settles-4 (s .procs) t) h
+refused-by s t roomy Short h = first-of (settles-2 s) (settles-3 s) (settles-leb (length t) mostTurns) (settles-4 (s .procs) t) h
 
 -- ---- the calls
 

@@ -13,8 +13,22 @@ use Rattle.rules.specs.Memory.{pick}
 use Rattle.rules.specs.Settings.{Settings, entry}
 use Rattle.rules.specs.Step.{Machine}
 use Rattle.rules.specs.Course.{Course, Turn, holds, idles, makes, turn}
-use Rattle.rules.specs.Play.{Run, first, taking, ended, after, play, whole}
+use Rattle.rules.specs.Play.{Run, first, taking, ended, within, after, play, whole}
 use Rattle.rules.proofs.Store.{by-test, left-of, false-true}
+
+-- ---- the budget
+
+pub keeps : (total : ℕ) (s : Settings) → within total s ≡ true → total ≤ s .budget
+unfolding within
+keeps total s e = leb-true _ _ e
+
+pub keeping : (total : ℕ) (s : Settings) → total ≤ s .budget → within total s ≡ true
+unfolding within
+keeping total s h = le-leb _ _ h
+
+pub passing : (total : ℕ) (s : Settings) → s .budget < total → within total s ≡ false
+unfolding within
+passing total s h = lt-leb _ _ h
 
 -- ---- one turn
 
@@ -22,12 +36,12 @@ use Rattle.rules.proofs.Store.{by-test, left-of, false-true}
 pub by-after : (m : Machine) (s : Settings) (r : Run (m .State)) (i : ℕ) (P : Run (m .State) → Type 0)
     → P r → P (ended r) → (taking m s r i .tally .total ≤ s .budget → P (taking m s r i)) → P (after m s r i)
 unfolding after
-by-after m s r i P a b c = go (r .stopped) (leb (taking m s r i .tally .total) (s .budget)) refl
+by-after m s r i P a b c = go (r .stopped) (within (taking m s r i .tally .total) s) refl
   where
-    go : (x y : Bool) → leb (taking m s r i .tally .total) (s .budget) ≡ y
+    go : (x y : Bool) → within (taking m s r i .tally .total) s ≡ y
         → P (elim x [ true ↦ r | false ↦ elim y [ true ↦ taking m s r i | false ↦ ended r ] ])
     go true y e = a
-    go false true e = c (leb-true _ _ e)
+    go false true e = c (keeps _ s e)
     go false false e = b
 
 -- a turn: a hold turn, idle, or a step
@@ -89,25 +103,25 @@ module _ (m : Machine) (s : Settings) where
 -- ---- the tests of a turn, known
 
 module _ (m : Machine) (s : Settings) (r : Run (m .State)) (i : ℕ) where
-  tested : (x y : Bool) → r .stopped ≡ x → leb (taking m s r i .tally .total) (s .budget) ≡ y
+  tested : (x y : Bool) → r .stopped ≡ x → within (taking m s r i .tally .total) s ≡ y
       → after m s r i ≡ elim x [ true ↦ r | false ↦ elim y [ true ↦ taking m s r i | false ↦ ended r ] ]
   unfolding after
   tested x y e f = ap₂ (λ (x y : Bool). elim x [ true ↦ r | false ↦ elim y [ true ↦ taking m s r i | false ↦ ended r ] ]) e f
 
   pub after-takes : r .stopped ≡ false → taking m s r i .tally .total ≤ s .budget → after m s r i ≡ taking m s r i
-  after-takes e h = tested false true e (le-leb _ _ h)
+  after-takes e h = tested false true e (keeping _ s h)
 
   -- a run that goes on has taken the turn
   pub after-taken : after m s r i .stopped ≡ false → after m s r i ≡ taking m s r i
-  after-taken e = go (r .stopped) (leb (taking m s r i .tally .total) (s .budget)) refl refl
+  after-taken e = go (r .stopped) (within (taking m s r i .tally .total) s) refl refl
     where
-      go : (x y : Bool) → r .stopped ≡ x → leb (taking m s r i .tally .total) (s .budget) ≡ y → after m s r i ≡ taking m s r i
+      go : (x y : Bool) → r .stopped ≡ x → within (taking m s r i .tally .total) s ≡ y → after m s r i ≡ taking m s r i
       go true y f h = absurd (false-true (sym e ∙ ap (λ (q : Run (m .State)). q .stopped) (tested true y f h) ∙ f))
       go false true f h = tested false true f h
       go false false f h = absurd (false-true (sym e ∙ ap (λ (q : Run (m .State)). q .stopped) (tested false false f h)))
 
   pub after-ends : r .stopped ≡ false → s .budget < taking m s r i .tally .total → after m s r i ≡ ended r
-  after-ends e h = tested false false e (lt-leb _ _ h)
+  after-ends e h = tested false false e (passing _ s h)
 
 -- ---- for a loop over the schedule: what is left, played from here, is the whole
 

@@ -9,7 +9,7 @@ use Rattle.rules.specs.Memory.{pick, upd}
 use Rattle.rules.specs.Settings.{Settings}
 use Rattle.rules.specs.Step.{remote}
 use Rattle.rules.specs.Course.{turn}
-use Rattle.rules.specs.Play.{whole, play, after, taking}
+use Rattle.rules.specs.Play.{whole, play, after, within, taking}
 use Rattle.rules.specs.Ticket as ticket
 use Rattle.rules.specs.Mcs as mcs
 use Rattle.rules.specs.Central as central
@@ -82,5 +82,5 @@ cases =
     ∷ []
 
 pub all-hold : All cases
-unfolding cases upd remote turn whole play after taking ticket.step mcs.step central.step dissem.step doublings doubled lit letters word digits number decimalIn decimal rows items turns front rest file.whole file.file inRow inRange allBelow refusal readingOf acceptedRun running
+unfolding cases upd remote turn whole play after within taking ticket.step mcs.step central.step dissem.step doublings doubled lit letters word digits number decimalIn decimal rows items turns front rest file.whole file.file inRow inRange allBelow refusal readingOf acceptedRun running
 all-hold = (refl, (refl, (refl, (refl, (refl, (refl, (refl, (refl, (refl, (refl, (refl, tt)))))))))))

@@ -39,12 +39,16 @@ taking m s r i = record {
 abbrev pub ended : {S : Type 0} → Run S → Run S
 ended r = record { memory = r .memory; course = r .course; tally = r .tally; events = r .events; taken = r .taken; stopped = true }
 
+-- a total that is not past the budget
+unfoldable pub within : ℕ → Settings → Bool
+within total s = leb total (s .budget)
+
 -- the run ends before the first turn that would carry the total past the budget; that turn is not taken, and none after it
 unfoldable pub after : (m : Machine) → Settings → Run (m .State) → ℕ → Run (m .State)
 after m s r i =
     elim (r .stopped) [
       | true ↦ r
-      | false ↦ elim (leb (taking m s r i .tally .total) (s .budget)) [ true ↦ taking m s r i | false ↦ ended r ]
+      | false ↦ elim (within (taking m s r i .tally .total) s) [ true ↦ taking m s r i | false ↦ ended r ]
     ]
 
 unfoldable pub play : (m : Machine) → Settings → List ℕ → Run (m .State) → Run (m .State)
