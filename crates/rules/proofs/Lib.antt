@@ -1,3 +1,4 @@
 pub mod Store
 pub mod Accepted
 pub mod Plays
+pub mod Steps
