@@ -1,2 +1,4 @@
+pub mod Lists
+pub mod Locks
 pub mod Costs
 pub mod McsCost
