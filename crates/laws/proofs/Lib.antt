@@ -1,4 +1,8 @@
 pub mod Lists
 pub mod Locks
+pub mod McsLine
+pub mod McsTurns
+pub mod TicketTurns
+pub mod Lines
 pub mod Costs
 pub mod McsCost
