@@ -1,5 +1,5 @@
 -- Who is in a list, and who is not.
-use mathlib.Core.Path.{_≡_, refl, _∙_, subst}
+use mathlib.Core.Path.{_≡_, refl, sym, _∙_, subst}
 use mathlib.Core.Logic.{_≢_, _⊎_, inl, inr, Ne·symm}
 use mathlib.Core.List.{List, [], _∷_, _++_}
 use Prim.Native.Nat.{ℕ, zero, suc, _≤_, _<_}
@@ -17,15 +17,21 @@ abbrev pub NoDup : List ℕ → Type 0
 NoDup [] = Unit {0}
 NoDup (b ∷ r) = Without b r × NoDup r
 
--- i is not in the list, or it is
-pub find : (i : ℕ) (q : List ℕ) → Without i q ⊎ Mem i q
-find i [] = inl tt
-find i (b ∷ r) = go (ℕ-discrete b i) (find i r)
+-- where i is in a line
+pub data Place (i : ℕ) : List ℕ → Type 0 where
+  outside : {q : List ℕ} → Without i q → Place i q
+  first : {r : List ℕ} → Place i (i ∷ r)
+  behind : {a : ℕ} {r : List ℕ} → Mem i r → Place i (a ∷ r)
+
+pub find : (i : ℕ) (q : List ℕ) → Place i q
+find i [] = outside tt
+find i (b ∷ r) = go r (ℕ-discrete b i) (find i r)
   where
-    go : Dec (b ≡ i) → Without i r ⊎ Mem i r → Without i (b ∷ r) ⊎ Mem i (b ∷ r)
-    go (yes e) m = inr (inl e)
-    go (no n) (inl f) = inl (n, f)
-    go (no n) (inr m) = inr (inr m)
+    go : (r : List ℕ) → Dec (b ≡ i) → Place i r → Place i (b ∷ r)
+    go r (yes e) p = subst (λ (x : ℕ). Place i (x ∷ r)) (sym e) first
+    go r (no n) (outside f) = outside {q = b ∷ r} (n, f)
+    go r (no n) first = behind (inl refl)
+    go r (no n) (behind m) = behind (inr m)
 
 -- one who is in the list is not one who is not
 pub without-mem : (i a : ℕ) (r : List ℕ) → Without a r → Mem i r → i ≢ a

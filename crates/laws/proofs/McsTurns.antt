@@ -1,24 +1,24 @@
 -- Every step keeps the line of the MCS lock.
-use mathlib.Core.Path.{_≡_, refl, sym, ap, _∙_, subst}
-use mathlib.Core.Logic.{_≢_, _⊎_, inl, inr, Ne·symm}
+use mathlib.Core.Path.{_≡_, refl, sym, ap, _∙_}
+use mathlib.Core.Logic.{_≢_, Ne·symm}
 use mathlib.Core.Bool.{Bool, true, false}
 use mathlib.Core.List.{List, [], _∷_, _++_}
-use Prim.Native.Nat.{ℕ, zero, suc, _<_}
+use Prim.Native.Nat.{ℕ, zero, suc}
 use native.Mathlib.Nat.{suc-inj}
 use native.Mathlib.Decide.{ℕ-discrete}
 use native.Mathlib.Omega.{arith}
-use lib.Dec.{T, eqb, eqb→eq}
+use lib.Dec.{eqb, eqb→eq}
 use lib.ListN.{length}
 use Rattle.rules.specs.Memory.{pick, upd}
 use Rattle.rules.specs.Settings.{Settings}
 use Rattle.rules.specs.Step.{grant, one, Step}
-use Rattle.rules.specs.Mcs.{State, setTail, setNext, setLocked, setPred, setSucc, clears, swaps, locks, links, waits, looks, drains, rereads, wakes, step, machine}
+use Rattle.rules.specs.Mcs.{State, setTail, setNext, setLocked, setPred, setSucc, clears, swaps, waits, looks, drains, rereads, wakes, step, machine}
 use Rattle.rules.proofs.Store.{upd-same, upd-other, zero-suc, either}
 use Rattle.laws.specs.Laws.{Without}
-use Rattle.laws.proofs.Lists.{Mem, find, without-mem, without-init, nodup-snoc}
+use Rattle.laws.proofs.Lists.{Mem, Place, outside, first, behind, find, without-init, nodup-snoc}
 use Rattle.laws.proofs.Locks as locks
-use Rattle.laws.proofs.Locks.{Moves, rests, joins, enters, gets, frees, After, Enters, no-hold, into}
-use Rattle.laws.proofs.McsLine.{View, view, Wait, w3, w4, w5, Head, h5, h7, h8, h9, h10, Out, o1, o2, Chain, Line, Inv, Same, wait-keep, head-keep, out-keep, Apart, chain-keep, head-moves, out-moves, Focus, focus, mid-moves}
+use Rattle.laws.proofs.Locks.{rests, joins, enters, gets, frees, After, Enters, no-hold, into}
+use Rattle.laws.proofs.McsLine.{View, view, Wait, w3, w4, w5, Head, h5, h7, h8, h9, h10, Out, o1, o2, Chain, Inv, wait-keep, head-keep, out-keep, Apart, chain-keep, head-moves, out-moves, Focus, focus, mid-moves}
 
 abbrev Kept : State → (ℕ → ℕ) → List ℕ → List ℕ → Type 0
 Kept x at q g = Inv (view x at) q g
@@ -26,10 +26,10 @@ Kept x at q g = Inv (view x at) q g
 abbrev Next : Step State → (ℕ → ℕ) → ℕ → List ℕ → List ℕ → Type 0
 Next t at i q g = After Kept t at i q g
 
-module _ (c : Settings) (x : State) (at : ℕ → ℕ) where
+module _ (s : Settings) (x : State) (at : ℕ → ℕ) where
   -- ---- one who waits: 3, 4, 5
 
-  wait-turn : (a i : ℕ) (r g : List ℕ) → Kept x at (a ∷ r) g → Mem i r → Next (step c x (at i) i) at i (a ∷ r) g
+  wait-turn : (a i : ℕ) (r g : List ℕ) → Kept x at (a ∷ r) g → Mem i r → Next (step s x (at i) i) at i (a ∷ r) g
   unfolding step
   wait-turn a i r g v m = go (f .wait)
     where
@@ -41,9 +41,25 @@ module _ (c : Settings) (x : State) (at : ℕ → ℕ) where
       link n v (yes e) h = absurd (h (ap (x .next) e ∙ n))
       link n v (no h′) h = upd-other (x .next) (f .p) v a h′
 
-      go : Wait (view x at) (f .p) i → Next (step c x (at i) i) at i (a ∷ r) g
-      go (w3 e p n) = rw e (record { q′ = a ∷ r; g′ = g; moves = rests; inv = mid-moves (view x at) (view (setLocked i 1 x) (upd at i 4)) a i r g v m f (search upd-other) (λ h. refl) (w4 (upd-same at i 4) p n (upd-same (x .locked) i 1)) })
-      go (w4 e p n l) = rw (e, p) (record { q′ = a ∷ r; g′ = g; moves = rests; inv = mid-moves (view x at) (view (setNext (f .p) (suc i) x) (upd at i 5)) a i r g v m f (search upd-other) (link n (suc i) (ℕ-discrete a (f .p))) (w5 (upd-same at i 5) (upd-same (x .next) (f .p) (suc i)) l) })
+      go : Wait (view x at) (f .p) i → Next (step s x (at i) i) at i (a ∷ r) g
+      go (w3 e p n) = rw e (record {
+        q′ = a ∷ r;
+        g′ = g;
+        moves = rests;
+        inv = mid-moves (view x at) (view (setLocked i 1 x) (upd at i 4)) a i r g v m f
+            (search upd-other)
+            (λ h. refl)
+            (w4 (upd-same at i 4) p n (upd-same (x .locked) i 1));
+      })
+      go (w4 e p n l) = rw (e, p) (record {
+        q′ = a ∷ r;
+        g′ = g;
+        moves = rests;
+        inv = mid-moves (view x at) (view (setNext (f .p) (suc i) x) (upd at i 5)) a i r g v m f
+            (search upd-other)
+            (link n (suc i) (ℕ-discrete a (f .p)))
+            (w5 (upd-same at i 5) (upd-same (x .next) (f .p) (suc i)) l);
+      })
       go (w5 e n l) = rw (e, l) (record { q′ = a ∷ r; g′ = g; moves = rests; inv = v })
 
   -- ---- the first of the line: 5 to 10
@@ -87,7 +103,7 @@ module _ (c : Settings) (x : State) (at : ℕ → ℕ) where
       go (yes h) = o1 (ap (t .at) h ∙ e)
       go (no h) = out-keep (view x at) t j (k j h (n h)) (v .out j (Ne·symm h, f))
 
-  turn8 : (a : ℕ) (r g : List ℕ) → Kept x at (a ∷ r) g → g ≡ a ∷ [] → (d : Bool) → eqb (x .tail) (suc a) ≡ d → Next (drains d c x) at a (a ∷ r) g
+  turn8 : (a : ℕ) (r g : List ℕ) → Kept x at (a ∷ r) g → g ≡ a ∷ [] → (d : Bool) → eqb (x .tail) (suc a) ≡ d → Next (drains d s x) at a (a ∷ r) g
   turn8 a r g v z false e = record { q′ = a ∷ r; g′ = g; moves = rests; inv = goes-to a r g v 9 g (h9 (upd-same at a 9) z) }
   turn8 a [] g v z true e = record {
     q′ = [];
@@ -131,11 +147,11 @@ module _ (c : Settings) (x : State) (at : ℕ → ℕ) where
             };
           }
 
-  head-turn : (a : ℕ) (r g : List ℕ) → Kept x at (a ∷ r) g → Next (step c x (at a) a) at a (a ∷ r) g
+  head-turn : (a : ℕ) (r g : List ℕ) → Kept x at (a ∷ r) g → Next (step s x (at a) a) at a (a ∷ r) g
   unfolding step
   head-turn a r g v = go (v .line .0)
     where
-      go : Head (view x at) a g → Next (step c x (at a) a) at a (a ∷ r) g
+      go : Head (view x at) a g → Next (step s x (at a) a) at a (a ∷ r) g
       go (h5 e l z) = rw (e, l) (turn5 a r g v z)
       go (h7 e z) = rw e (turn7 a r g v (x .next a) refl z)
       go (h8 e z) = rw e (turn8 a r g v z (eqb (x .tail) (suc a)) refl)
@@ -160,7 +176,7 @@ module _ (c : Settings) (x : State) (at : ℕ → ℕ) where
   still-out : (t : View) (i : ℕ) (q g : List ℕ) → Kept x at q g → Apart (view x at) t i i → (j : ℕ) → Without j (q ++ i ∷ []) → Out t j
   still-out t i q g v k j f = let h = without-init j i q f in out-keep (view x at) t j (k j (h .1) (h .1)) (v .out j (h .0))
 
-  turn2 : (i : ℕ) (q g : List ℕ) → Kept x at q g → Without i q → x .next i ≡ 0 → (n : ℕ) → x .tail ≡ n → Next (swaps n c x i) at i q g
+  turn2 : (i : ℕ) (q g : List ℕ) → Kept x at q g → Without i q → x .next i ≡ 0 → (n : ℕ) → x .tail ≡ n → Next (swaps n s x i) at i q g
   turn2 i [] g v f en zero e = record {
     q′ = i ∷ [];
     g′ = i ∷ [];
@@ -203,31 +219,30 @@ module _ (c : Settings) (x : State) (at : ℕ → ℕ) where
         (o2 (upd-same at i 2) (upd-same (x .next) i 0));
   }
 
-  out-turn : (i : ℕ) (q g : List ℕ) → Kept x at q g → Without i q → Next (step c x (at i) i) at i q g
+  out-turn : (i : ℕ) (q g : List ℕ) → Kept x at q g → Without i q → Next (step s x (at i) i) at i q g
   unfolding step
   out-turn i q g v f = go (v .out i f)
     where
-      go : Out (view x at) i → Next (step c x (at i) i) at i q g
+      go : Out (view x at) i → Next (step s x (at i) i) at i q g
       go (o1 e) = rw e (turn1 i q g v f)
       go (o2 e n) = rw e (turn2 i q g v f n (x .tail) refl)
 
   -- ---- any turn
 
-  one-turn : (i : ℕ) (q g : List ℕ) → Kept x at q g → Next (step c x (at i) i) at i q g
+  one-turn : (i : ℕ) (q g : List ℕ) → Kept x at q g → Next (step s x (at i) i) at i q g
   one-turn i q g v = go q v (find i q)
     where
-      go : (q : List ℕ) → Kept x at q g → Without i q ⊎ Mem i q → Next (step c x (at i) i) at i q g
-      go q v (inl f) = out-turn i q g v f
-      go [] v (inr m) = absurd m
-      go (a ∷ r) v (inr (inl e)) = subst (λ (y : ℕ). Next (step c x (at y) y) at y (a ∷ r) g) e (head-turn a r g v)
-      go (a ∷ r) v (inr (inr m)) = wait-turn a i r g v m
+      go : (q : List ℕ) → Kept x at q g → Place i q → Next (step s x (at i) i) at i q g
+      go q v (outside f) = out-turn i q g v f
+      go q v (first {r = r}) = head-turn i r g v
+      go q v (behind {a = a} {r = r} m) = wait-turn a i r g v m
 
   -- the first of the line, where nobody holds
-  first-waits : (f : ℕ) (r : List ℕ) → Kept x at (f ∷ r) [] → (at f ≢ 1) × (at f ≢ 7) × (step c x (at f) f .says ≡ one grant)
+  first-waits : (f : ℕ) (r : List ℕ) → Kept x at (f ∷ r) [] → (at f ≢ 1) × (at f ≢ 7) × (step s x (at f) f .says ≡ one grant)
   unfolding step
   first-waits f r v = go (v .line .0)
     where
-      go : Head (view x at) f [] → (at f ≢ 1) × (at f ≢ 7) × (step c x (at f) f .says ≡ one grant)
+      go : Head (view x at) f [] → (at f ≢ 1) × (at f ≢ 7) × (step s x (at f) f .says ≡ one grant)
       go (h5 e l z) = (omega arith, omega arith, rw (e, l) refl)
       go (h7 e z) = absurd (zero-suc (ap length z))
       go (h8 e z) = absurd (zero-suc (ap length z))
@@ -235,16 +250,16 @@ module _ (c : Settings) (x : State) (at : ℕ → ℕ) where
       go (h10 e n z) = absurd (zero-suc (ap length z))
 
 -- only a grant starts hold turns, and it goes to 7
-enters-7 : (c : Settings) (x : State) (k i : ℕ) → Enters 7 (step c x k i)
+enters-7 : (s : Settings) (x : State) (k i : ℕ) → Enters 7 (step s x k i)
 unfolding step
-enters-7 c x k i =
+enters-7 s x k i =
     or 1 (no-hold refl) (or 2 (swap (x .tail)) (or 3 (no-hold refl) (or 4 (no-hold refl) (or 5 (wait (x .locked i)) (
     or 7 (look (x .next i)) (or 8 (drain (eqb (x .tail) (suc i))) (or 9 (reread (x .next i)) (no-hold refl))))))))
   where
     or : (n : ℕ) {t u : Step State} → Enters 7 t → Enters 7 u → Enters 7 (pick (eqb k n) t u)
     or n {t} {u} = either (Enters 7) (eqb k n) t u
 
-    swap : (n : ℕ) → Enters 7 (swaps n c x i)
+    swap : (n : ℕ) → Enters 7 (swaps n s x i)
     swap zero = into refl
     swap (suc n) = no-hold refl
 
@@ -256,7 +271,7 @@ enters-7 c x k i =
     look zero = no-hold refl
     look (suc n) = no-hold refl
 
-    drain : (b : Bool) → Enters 7 (drains b c x)
+    drain : (b : Bool) → Enters 7 (drains b s x)
     drain true = no-hold refl
     drain false = no-hold refl
 

@@ -1,9 +1,9 @@
 -- Every step keeps the line of the ticket lock. The k-th of the line has ticket n + k, n the number of the first, all taken modulo 65536.
-use mathlib.Core.Path.{_≡_, refl, sym, ap, _∙_, subst}
-use mathlib.Core.Logic.{_≢_, _⊎_, inl, inr, Ne·symm}
+use mathlib.Core.Path.{_≡_, refl, sym, ap, _∙_}
+use mathlib.Core.Logic.{_≢_, inl, inr, Ne·symm}
 use mathlib.Core.Bool.{Bool, true, false}
 use mathlib.Core.List.{List, [], _∷_, _++_}
-use Prim.Native.Nat.{ℕ, zero, suc, _+_, _%_, _≤_, _<_}
+use Prim.Native.Nat.{ℕ, suc, _+_, _%_, _≤_, _<_}
 use native.Mathlib.Decide.{ℕ-discrete}
 use native.Mathlib.Omega.{arith}
 use borrow.Author.Tests.{eq-eqb, ne-eqb}
@@ -17,9 +17,9 @@ use Rattle.rules.specs.Ticket.{State, up, asks, waits, frees, step, machine}
 use Rattle.rules.proofs.Store.{upd-same, upd-other, zero-suc, either}
 use Rattle.rules.proofs.Accepted.{Below}
 use Rattle.laws.specs.Laws.{Without, Within}
-use Rattle.laws.proofs.Lists.{Mem, NoDup, find, without-mem, without-init, nodup-snoc, pigeon, below-snoc}
+use Rattle.laws.proofs.Lists.{Mem, NoDup, Place, outside, first, behind, find, without-init, nodup-snoc, pigeon, below-snoc}
 use Rattle.laws.proofs.Locks as locks
-use Rattle.laws.proofs.Locks.{Moves, rests, joins, gets, After, Enters, no-hold, into}
+use Rattle.laws.proofs.Locks.{rests, joins, gets, After, Enters, no-hold, into}
 
 -- tickets are taken modulo this
 abbrev wrap : ℕ
@@ -92,15 +92,15 @@ ticket-of mine request n i [] t m = absurd m
 
 -- ---- a turn
 
-module _ (c : Settings) (small : c .procs ≤ mostTicket + 1) (x : State) (at : ℕ → ℕ) where
+module _ (s : Settings) (small : s .procs ≤ mostTicket + 1) (x : State) (at : ℕ → ℕ) where
   abbrev Next : Step State → ℕ → List ℕ → List ℕ → Type 0
-  Next t i q g = After (Inv (c .procs)) t at i q g
+  Next t i q g = After (Inv (s .procs)) t at i q g
 
   line-snoc : (i : ℕ) (q g : List ℕ) → Without i q → Line at q g → Line (upd at i 2) (q ++ i ∷ []) g
   line-snoc i [] g f l = (h2 (upd-same at i 2) l, tt)
   line-snoc i (a ∷ r) g f l = (head-keep at i 2 a g (f .0) (l .0), waiting-snoc at i r (f .1) (l .1))
 
-  turn1 : (i : ℕ) (q g : List ℕ) → i < c .procs → Inv (c .procs) x at q g → Without i q → Next (asks c x i) i q g
+  turn1 : (i : ℕ) (q g : List ℕ) → i < s .procs → Inv (s .procs) x at q g → Without i q → Next (asks s x i) i q g
   turn1 i q g b v f = record {
     q′ = q ++ i ∷ [];
     g′ = g;
@@ -110,25 +110,25 @@ module _ (c : Settings) (small : c .procs ≤ mostTicket + 1) (x : State) (at : 
       now = v .now;
       tickets = tickets-snoc (x .mine) (x .request) (v .n) i q f (v .tickets);
       nodup = nodup-snoc i q f (v .nodup);
-      below = below-snoc (c .procs) i q b (v .below);
+      below = below-snoc (s .procs) i q b (v .below);
       line = line-snoc i q g f (v .line);
       out = λ j h. let w = without-init j i q h in out-keep at i 2 j (w .1) (v .out j (w .0));
     };
   }
 
   -- one who waits behind the first: its ticket is not the one that is served
-  wait-turn : (a i : ℕ) (r g : List ℕ) → Inv (c .procs) x at (a ∷ r) g → Mem i r → Next (step c x (at i) i) i (a ∷ r) g
+  wait-turn : (a i : ℕ) (r g : List ℕ) → Inv (s .procs) x at (a ∷ r) g → Mem i r → Next (step s x (at i) i) i (a ∷ r) g
   unfolding step
   wait-turn a i r g v m =
       let w = ticket-of (x .mine) (x .request) (suc (v .n)) i r (v .tickets .1) m in
-      let l = pigeon (c .procs) (a ∷ r) (v .nodup) (v .below) in
-      let s = v .now in
+      let l = pigeon (s .procs) (a ∷ r) (v .nodup) (v .below) in
+      let z = v .now in
       let k = w .1 in
       let e = w .2 in
       let no : x .release ≢ x .mine i = omega arith in
       rw (waits-at at i r (v .line .1) m, ne-eqb _ _ no) (record { q′ = a ∷ r; g′ = g; moves = rests; inv = v })
 
-  turn2 : (a : ℕ) (r g : List ℕ) → Inv (c .procs) x at (a ∷ r) g → g ≡ [] → Next (waits true c x) a (a ∷ r) g
+  turn2 : (a : ℕ) (r g : List ℕ) → Inv (s .procs) x at (a ∷ r) g → g ≡ [] → Next (waits true s x) a (a ∷ r) g
   turn2 a r g v z = record {
     q′ = a ∷ r;
     g′ = a ∷ [];
@@ -144,7 +144,7 @@ module _ (c : Settings) (small : c .procs ≤ mostTicket + 1) (x : State) (at : 
     };
   }
 
-  turn3 : (a : ℕ) (r g : List ℕ) → Inv (c .procs) x at (a ∷ r) g → g ≡ a ∷ [] → Next (frees c x) a (a ∷ r) g
+  turn3 : (a : ℕ) (r g : List ℕ) → Inv (s .procs) x at (a ∷ r) g → g ≡ a ∷ [] → Next (frees s x) a (a ∷ r) g
   turn3 a r g v z = record {
     q′ = r;
     g′ = [];
@@ -168,40 +168,39 @@ module _ (c : Settings) (small : c .procs ≤ mostTicket + 1) (x : State) (at : 
       gone j f (yes e) = rw e (upd-same at a 1)
       gone j f (no n) = out-keep at a 1 j n (v .out j (Ne·symm n, f))
 
-  head-turn : (a : ℕ) (r g : List ℕ) → Inv (c .procs) x at (a ∷ r) g → Next (step c x (at a) a) a (a ∷ r) g
+  head-turn : (a : ℕ) (r g : List ℕ) → Inv (s .procs) x at (a ∷ r) g → Next (step s x (at a) a) a (a ∷ r) g
   unfolding step
   head-turn a r g v = go (v .line .0)
     where
-      go : Head at a g → Next (step c x (at a) a) a (a ∷ r) g
+      go : Head at a g → Next (step s x (at a) a) a (a ∷ r) g
       go (h2 e z) = rw (e, eq-eqb _ _ (v .now ∙ sym (v .tickets .0))) (turn2 a r g v z)
       go (h3 e z) = rw e (turn3 a r g v z)
 
-  one-turn : (i : ℕ) (q g : List ℕ) → i < c .procs → Inv (c .procs) x at q g → Next (step c x (at i) i) i q g
+  one-turn : (i : ℕ) (q g : List ℕ) → i < s .procs → Inv (s .procs) x at q g → Next (step s x (at i) i) i q g
   unfolding step
   one-turn i q g b v = go q v (find i q)
     where
-      go : (q : List ℕ) → Inv (c .procs) x at q g → Without i q ⊎ Mem i q → Next (step c x (at i) i) i q g
-      go q v (inl f) = rw (v .out i f) (turn1 i q g b v f)
-      go [] v (inr m) = absurd m
-      go (a ∷ r) v (inr (inl e)) = subst (λ (y : ℕ). Next (step c x (at y) y) y (a ∷ r) g) e (head-turn a r g v)
-      go (a ∷ r) v (inr (inr m)) = wait-turn a i r g v m
+      go : (q : List ℕ) → Inv (s .procs) x at q g → Place i q → Next (step s x (at i) i) i q g
+      go q v (outside f) = rw (v .out i f) (turn1 i q g b v f)
+      go q v (first {r = r}) = head-turn i r g v
+      go q v (behind {a = a} {r = r} m) = wait-turn a i r g v m
 
-  first-waits : (f : ℕ) (r : List ℕ) → Inv (c .procs) x at (f ∷ r) [] → (at f ≢ 1) × (at f ≢ 3) × (step c x (at f) f .says ≡ one grant)
+  first-waits : (f : ℕ) (r : List ℕ) → Inv (s .procs) x at (f ∷ r) [] → (at f ≢ 1) × (at f ≢ 3) × (step s x (at f) f .says ≡ one grant)
   unfolding step
   first-waits f r v = go (v .line .0)
     where
-      go : Head at f [] → (at f ≢ 1) × (at f ≢ 3) × (step c x (at f) f .says ≡ one grant)
+      go : Head at f [] → (at f ≢ 1) × (at f ≢ 3) × (step s x (at f) f .says ≡ one grant)
       go (h2 e z) = (omega arith, omega arith, rw (e, eq-eqb _ _ (v .now ∙ sym (v .tickets .0))) refl)
       go (h3 e z) = absurd (zero-suc (ap length z))
 
-enters-3 : (c : Settings) (x : State) (k i : ℕ) → Enters 3 (step c x k i)
+enters-3 : (s : Settings) (x : State) (k i : ℕ) → Enters 3 (step s x k i)
 unfolding step
-enters-3 c x k i = or 1 (no-hold refl) (or 2 (wait (eqb (x .release) (x .mine i))) (no-hold refl))
+enters-3 s x k i = or 1 (no-hold refl) (or 2 (wait (eqb (x .release) (x .mine i))) (no-hold refl))
   where
     or : (n : ℕ) {t u : Step State} → Enters 3 t → Enters 3 u → Enters 3 (pick (eqb k n) t u)
     or n {t} {u} = either (Enters 3) (eqb k n) t u
 
-    wait : (b : Bool) → Enters 3 (waits b c x)
+    wait : (b : Bool) → Enters 3 (waits b s x)
     wait true = into refl
     wait false = no-hold refl
 

@@ -5,7 +5,6 @@ use Prim.Native.Nat.{ℕ, _≤_}
 use native.Mathlib.Omega.{arith}
 use borrow.Author.Tests.{eq-eqb}
 use lib.Dec.{eqb}
-use Rattle.rules.specs.Memory.{pick, upd}
 use Rattle.rules.specs.Step.{Manner, Access, none, made, remote, Next, stay, to, over}
 use Rattle.rules.specs.Course.{goes}
 use Rattle.rules.proofs.Store.{upd-same, upd-other, either}
