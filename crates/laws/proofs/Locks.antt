@@ -40,6 +40,11 @@ pub record After {S : Type 0} (Inv : Invariant S) (t : Step S) (at : ℕ → ℕ
   pub moves : Moves i q g q′ g′ (t .says)
   pub inv : Inv (t .memory) (goes (t .then) i at) q′ g′
 
+-- a step that says nothing leaves the line as it is
+pub resting : {S : Type 0} {Inv : Invariant S} {t : Step S} {at : ℕ → ℕ} {i : ℕ} {q g : List ℕ}
+    → t .says ≡ nothing → Inv (t .memory) (goes (t .then) i at) q g → After Inv t at i q g
+resting {q = q} {g = g} e v = record { q′ = q; g′ = g; moves = rw e rests; inv = v }
+
 -- the step starts no hold turns, or it goes to step k
 pub data Enters {S : Type 0} (k : ℕ) (t : Step S) : Type 0 where
   no-hold : holding (t .says) ≡ false → Enters k t

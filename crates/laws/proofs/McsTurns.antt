@@ -17,7 +17,7 @@ use Rattle.rules.proofs.Store.{upd-same, upd-other, zero-suc, either}
 use Rattle.laws.specs.Laws.{Without}
 use Rattle.laws.proofs.Lists.{Mem, Place, outside, first, behind, find, without-init, nodup-snoc}
 use Rattle.laws.proofs.Locks as locks
-use Rattle.laws.proofs.Locks.{rests, joins, enters, gets, frees, After, Enters, no-hold, into}
+use Rattle.laws.proofs.Locks.{joins, enters, gets, frees, After, resting, Enters, no-hold, into}
 use Rattle.laws.proofs.McsLine.{View, view, Wait, w3, w4, w5, Head, h5, h7, h8, h9, h10, Out, o1, o2, Chain, Inv, wait-keep, head-keep, out-keep, Apart, chain-keep, head-moves, out-moves, Focus, focus, mid-moves}
 
 abbrev Kept : State → (ℕ → ℕ) → List ℕ → List ℕ → Type 0
@@ -42,25 +42,15 @@ module _ (s : Settings) (x : State) (at : ℕ → ℕ) where
       link n v (no h′) h = upd-other (x .next) (f .p) v a h′
 
       go : Wait (view x at) (f .p) i → Next (step s x (at i) i) at i (a ∷ r) g
-      go (w3 e p n) = rw e (record {
-        q′ = a ∷ r;
-        g′ = g;
-        moves = rests;
-        inv = mid-moves (view x at) (view (setLocked i 1 x) (upd at i 4)) a i r g v m f
-            (search upd-other)
-            (λ h. refl)
-            (w4 (upd-same at i 4) p n (upd-same (x .locked) i 1));
-      })
-      go (w4 e p n l) = rw (e, p) (record {
-        q′ = a ∷ r;
-        g′ = g;
-        moves = rests;
-        inv = mid-moves (view x at) (view (setNext (f .p) (suc i) x) (upd at i 5)) a i r g v m f
-            (search upd-other)
-            (link n (suc i) (ℕ-discrete a (f .p)))
-            (w5 (upd-same at i 5) (upd-same (x .next) (f .p) (suc i)) l);
-      })
-      go (w5 e n l) = rw (e, l) (record { q′ = a ∷ r; g′ = g; moves = rests; inv = v })
+      go (w3 e p n) = rw e (resting refl (mid-moves (view x at) (view (setLocked i 1 x) (upd at i 4)) a i r g v m f
+          (search upd-other)
+          (λ h. refl)
+          (w4 (upd-same at i 4) p n (upd-same (x .locked) i 1))))
+      go (w4 e p n l) = rw (e, p) (resting refl (mid-moves (view x at) (view (setNext (f .p) (suc i) x) (upd at i 5)) a i r g v m f
+          (search upd-other)
+          (link n (suc i) (ℕ-discrete a (f .p)))
+          (w5 (upd-same at i 5) (upd-same (x .next) (f .p) (suc i)) l)))
+      go (w5 e n l) = rw (e, l) (resting refl v)
 
   -- ---- the first of the line: 5 to 10
 
@@ -83,12 +73,12 @@ module _ (s : Settings) (x : State) (at : ℕ → ℕ) where
     turn5 z = record { q′ = a ∷ r; g′ = a ∷ []; moves = rw z gets; inv = goes-to 7 (a ∷ []) (h7 (upd-same at a 7) refl) }
 
     turn7 : (n : ℕ) → x .next a ≡ n → g ≡ a ∷ [] → Next (looks n x a) at a (a ∷ r) g
-    turn7 zero e z = record { q′ = a ∷ r; g′ = g; moves = rests; inv = goes-to 8 g (h8 (upd-same at a 8) z) }
-    turn7 (suc j) e z = record { q′ = a ∷ r; g′ = g; moves = rests; inv = linked j e z }
+    turn7 zero e z = resting refl (goes-to 8 g (h8 (upd-same at a 8) z))
+    turn7 (suc j) e z = resting refl (linked j e z)
 
     turn9 : (n : ℕ) → x .next a ≡ n → g ≡ a ∷ [] → Next (rereads n x a) at a (a ∷ r) g
-    turn9 zero e z = record { q′ = a ∷ r; g′ = g; moves = rests; inv = v }
-    turn9 (suc j) e z = record { q′ = a ∷ r; g′ = g; moves = rests; inv = linked j e z }
+    turn9 zero e z = resting refl v
+    turn9 (suc j) e z = resting refl (linked j e z)
 
   -- tail is the last of the line
   not-tail : (a b : ℕ) (r : List ℕ) → b ≢ a → Without a r → Chain (view x at) b r → x .tail ≢ suc a
@@ -104,7 +94,7 @@ module _ (s : Settings) (x : State) (at : ℕ → ℕ) where
       go (no h) = out-keep (view x at) t j (k j h (n h)) (v .out j (Ne·symm h, f))
 
   turn8 : (a : ℕ) (r g : List ℕ) → Kept x at (a ∷ r) g → g ≡ a ∷ [] → (d : Bool) → eqb (x .tail) (suc a) ≡ d → Next (drains d s x) at a (a ∷ r) g
-  turn8 a r g v z false e = record { q′ = a ∷ r; g′ = g; moves = rests; inv = goes-to a r g v 9 g (h9 (upd-same at a 9) z) }
+  turn8 a r g v z false e = resting refl (goes-to a r g v 9 g (h9 (upd-same at a 9) z))
   turn8 a [] g v z true e = record {
     q′ = [];
     g′ = [];
@@ -210,14 +200,9 @@ module _ (s : Settings) (x : State) (at : ℕ → ℕ) where
       k y h h′ = search upd-other
 
   turn1 : (i : ℕ) (q g : List ℕ) → Kept x at q g → Without i q → Next (clears x i) at i q g
-  turn1 i q g v f = record {
-    q′ = q;
-    g′ = g;
-    moves = rests;
-    inv = out-moves (view x at) (view (setNext i 0 x) (upd at i 2)) i q g v f refl
-        (λ y h h′. search upd-other)
-        (o2 (upd-same at i 2) (upd-same (x .next) i 0));
-  }
+  turn1 i q g v f = resting refl (out-moves (view x at) (view (setNext i 0 x) (upd at i 2)) i q g v f refl
+      (λ y h h′. search upd-other)
+      (o2 (upd-same at i 2) (upd-same (x .next) i 0)))
 
   out-turn : (i : ℕ) (q g : List ℕ) → Kept x at q g → Without i q → Next (step s x (at i) i) at i q g
   unfolding step

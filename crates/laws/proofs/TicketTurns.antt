@@ -19,7 +19,7 @@ use Rattle.rules.proofs.Accepted.{Below}
 use Rattle.laws.specs.Laws.{Without, Within}
 use Rattle.laws.proofs.Lists.{Mem, NoDup, Place, outside, first, behind, find, without-init, nodup-snoc, pigeon, below-snoc}
 use Rattle.laws.proofs.Locks as locks
-use Rattle.laws.proofs.Locks.{rests, joins, gets, After, Enters, no-hold, into}
+use Rattle.laws.proofs.Locks.{joins, gets, After, resting, Enters, no-hold, into}
 
 -- tickets are taken modulo this
 abbrev wrap : ℕ
@@ -78,7 +78,8 @@ out-keep at i k j n e = upd-other at i k j n ∙ e
 up-is : (r n : ℕ) → r ≡ n % wrap → up r ≡ suc n % wrap
 up-is r n e = omega arith
 
-tickets-snoc : (mine : ℕ → ℕ) (request n i : ℕ) (q : List ℕ) → Without i q → Tickets mine request n q → Tickets (upd mine i request) (up request) n (q ++ i ∷ [])
+tickets-snoc : (mine : ℕ → ℕ) (request n i : ℕ) (q : List ℕ) → Without i q → Tickets mine request n q
+    → Tickets (upd mine i request) (up request) n (q ++ i ∷ [])
 tickets-snoc mine request n i [] f t = (upd-same mine i request ∙ t, up-is request n t)
 tickets-snoc mine request n i (a ∷ q) f t = (upd-other mine i request a (f .0) ∙ t .0, tickets-snoc mine request (suc n) i q (f .1) (t .1))
 
@@ -126,7 +127,7 @@ module _ (s : Settings) (small : s .procs ≤ mostTicket + 1) (x : State) (at : 
       let k = w .1 in
       let e = w .2 in
       let no : x .release ≢ x .mine i = omega arith in
-      rw (waits-at at i r (v .line .1) m, ne-eqb _ _ no) (record { q′ = a ∷ r; g′ = g; moves = rests; inv = v })
+      rw (waits-at at i r (v .line .1) m, ne-eqb _ _ no) (resting refl v)
 
   turn2 : (a : ℕ) (r g : List ℕ) → Inv (s .procs) x at (a ∷ r) g → g ≡ [] → Next (waits true s x) a (a ∷ r) g
   turn2 a r g v z = record {
