@@ -34,6 +34,7 @@ pub data Moves (i : ℕ) : List ℕ → List ℕ → List ℕ → List ℕ → S
 abbrev pub Invariant : Type 0 → Type 1
 Invariant S = S → (at : ℕ → ℕ) → (q g : List ℕ) → Type 0
 
+-- the line after step t of processor i
 pub record After {S : Type 0} (Inv : Invariant S) (t : Step S) (at : ℕ → ℕ) (i : ℕ) (q g : List ℕ) : Type 0 where
   pub q′ : List ℕ
   pub g′ : List ℕ
@@ -79,6 +80,7 @@ move-holder enters h = front
 move-holder gets h = front
 move-holder frees h = nobody
 
+-- what is said fits what is done: who joins comes into the line, who releases leaves it
 move-joined : {i : ℕ} {q g q′ g′ : List ℕ} {k : Says} → Moves i q g q′ g′ k → q ++ of join (said i k) ≡ of release (said i k) ++ q′
 move-joined rests = append-nil _
 move-joined joins = refl
@@ -145,6 +147,7 @@ module _ (m : Machine) (s : Settings) (k : Lock m s) where
     pub granted : of grant es ≡ of release es ++ g
     pub held : Held c
 
+  -- a run that has a line
   pub record Good (r : Run (m .State)) : Type 0 where
     pub q : List ℕ
     pub g : List ℕ
@@ -177,6 +180,7 @@ module _ (m : Machine) (s : Settings) (k : Lock m s) where
     line : Lined x c es q′ g′
     still : (f : ℕ) → i ≢ f → First f q g → First f q′ g′
 
+  -- a turn that says nothing and leaves the memory
   quiet : (i : ℕ) (x : m .State) (c : Course) (es : List Event) (q g : List ℕ) → Lined x c es q g → Then i x c (es ++ []) q g
   quiet i x c es q g l = record { q′ = q; g′ = g; line = rw (append-nil es) l; still = λ f n h. h }
 
@@ -267,6 +271,7 @@ module _ (m : Machine) (s : Settings) (k : Lock m s) where
           (λ e. absurd (now .0 e))
           (λ z. ap (said f) (now .2))
 
+  -- demand 3
   pub in-line : (t : List ℕ) → allBelow (s .procs) t ≡ true → InLine m s t
   in-line t b = record {
     granted = record { rest = p .rest; adds = rw (l .granted, l .joined) (append-assoc R (w .g) (p .rest) ∙ ap (λ (z : List ℕ). R ++ z) (p .adds)) };

@@ -42,6 +42,7 @@ pub data Out (s : View) (i : ℕ) : Type 0 where
   o1 : s .at i ≡ 1 → Out s i
   o2 : s .at i ≡ 2 → s .next i ≡ 0 → Out s i
 
+-- those of the list wait one behind the other, the first of them behind a; the last is in tail
 abbrev pub Chain : View → ℕ → List ℕ → Type 0
 Chain s a [] = (s .next a ≡ 0) × (s .tail ≡ suc a)
 Chain s a (b ∷ r) = Wait s a b × Chain s b r
@@ -57,6 +58,7 @@ pub record Inv (s : View) (q g : List ℕ) : Type 0 where
 
 -- ---- what a turn leaves alone
 
+-- x has in t what it has in s
 pub record Same (s t : View) (x : ℕ) : Type 0 where
   pub at-is : t .at x ≡ s .at x
   pub next-is : t .next x ≡ s .next x
@@ -93,7 +95,7 @@ chain-keep s t i p a (b ∷ r) et en k fi fp c =
     let m = k b (fi .0) (fp .0) in
     (wait-keep s t a b en (m .at-is) (m .pred-is) (m .locked-is) (c .0), chain-keep s t i p b r et (m .next-is) k (fi .1) (fp .1) (c .1))
 
-pub line-keep : (s t : View) (i : ℕ) (q g : List ℕ) → t .tail ≡ s .tail → Apart s t i i → Without i q → Line s q g → Line t q g
+line-keep : (s t : View) (i : ℕ) (q g : List ℕ) → t .tail ≡ s .tail → Apart s t i i → Without i q → Line s q g → Line t q g
 line-keep s t i [] g et k f l = (et ∙ l .0, l .1)
 line-keep s t i (a ∷ r) g et k f l =
     let m = k a (f .0) (f .0) in
@@ -161,6 +163,7 @@ focus s a (b ∷ r) i d (inr m) c =
       back = λ t k w. (wait-keep s t a b (k .next-is a ap) (k .at-is b bi) (k .pred-is b bi) (k .locked-is b bi) (c .0), f .back t k w);
     }
 
+-- one who waits does something with its own record and with the next of the one before
 pub mid-moves : (s t : View) (a i : ℕ) (r g : List ℕ) → Inv s (a ∷ r) g → Mem i r → (f : Focus s a r i)
     → Mid s t i (f .p) → (s .next a ≢ 0 → t .next a ≡ s .next a) → Wait t (f .p) i → Inv t (a ∷ r) g
 mid-moves s t a i r g v m f k en w =

@@ -59,6 +59,7 @@ module _ (s : Settings) (x : State) (at : ℕ → ℕ) where
   goto-apart a k v y h h′ = search upd-other
 
   module _ (a : ℕ) (r g : List ℕ) (v : Kept x at (a ∷ r) g) where
+    -- a goes to step k, and nothing else happens
     goes-to : (k : ℕ) (g′ : List ℕ) → Head (view x (upd at a k)) a g′ → Kept x (upd at a k) (a ∷ r) g′
     goes-to k g′ = head-moves (view x at) (view x (upd at a k)) a r g g′ v refl refl (goto-apart a k (x .tail))
 
@@ -158,6 +159,7 @@ module _ (s : Settings) (x : State) (at : ℕ → ℕ) where
       let m = k b (f .0) (f .0) in
       (wait-keep (view x at) t a b (k a n n .next-is) (m .at-is) (m .pred-is) (m .locked-is) (h .0), chain-snoc t b i p r e et en ea ep k (f .0) (f .1) (h .1))
 
+  -- tail is nil only where nobody is in line
   tail-some : (a : ℕ) (r : List ℕ) → Chain (view x at) a r → x .tail ≢ 0
   tail-some a [] k h = zero-suc (sym h ∙ k .1)
   tail-some a (b ∷ r) k h = tail-some b r (k .1) h

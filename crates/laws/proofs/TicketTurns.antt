@@ -30,10 +30,12 @@ abbrev Tickets : (ℕ → ℕ) → ℕ → ℕ → List ℕ → Type 0
 Tickets mine request n [] = request ≡ n % wrap
 Tickets mine request n (a ∷ r) = (mine a ≡ n % wrap) × Tickets mine request (suc n) r
 
+-- a is the first of the line, and g is a alone if a holds the lock, else nobody
 data Head (at : ℕ → ℕ) (a : ℕ) (g : List ℕ) : Type 0 where
   h2 : at a ≡ 2 → g ≡ [] → Head at a g
   h3 : at a ≡ 3 → g ≡ a ∷ [] → Head at a g
 
+-- all of these wait at step 2
 abbrev Waiting : (ℕ → ℕ) → List ℕ → Type 0
 Waiting at [] = Unit {0}
 Waiting at (a ∷ r) = (at a ≡ 2) × Waiting at r
@@ -42,6 +44,7 @@ abbrev Line : (ℕ → ℕ) → List ℕ → List ℕ → Type 0
 Line at [] g = g ≡ []
 Line at (a ∷ r) g = Head at a g × Waiting at r
 
+-- n is the number of the first of the line, or of the next to come; who is outside is at step 1
 record Inv (p : ℕ) (x : State) (at : ℕ → ℕ) (q g : List ℕ) : Type 0 where
   n : ℕ
   now : x .release ≡ n % wrap
@@ -53,10 +56,12 @@ record Inv (p : ℕ) (x : State) (at : ℕ → ℕ) (q g : List ℕ) : Type 0 wh
 
 -- ---- what a step leaves alone
 
+-- those who wait still do when another goes to step k
 waiting-keep : (at : ℕ → ℕ) (i k : ℕ) (r : List ℕ) → Without i r → Waiting at r → Waiting (upd at i k) r
 waiting-keep at i k [] f w = tt
 waiting-keep at i k (b ∷ r) f w = (upd-other at i k b (f .0) ∙ w .0, waiting-keep at i k r (f .1) (w .1))
 
+-- and when another comes to wait behind them
 waiting-snoc : (at : ℕ → ℕ) (i : ℕ) (r : List ℕ) → Without i r → Waiting at r → Waiting (upd at i 2) (r ++ i ∷ [])
 waiting-snoc at i [] f w = (upd-same at i 2, tt)
 waiting-snoc at i (b ∷ r) f w = (upd-other at i 2 b (f .0) ∙ w .0, waiting-snoc at i r (f .1) (w .1))
@@ -70,14 +75,12 @@ head-keep : (at : ℕ → ℕ) (i k a : ℕ) (g : List ℕ) → a ≢ i → Head
 head-keep at i k a g n (h2 e z) = h2 (upd-other at i k a n ∙ e) z
 head-keep at i k a g n (h3 e z) = h3 (upd-other at i k a n ∙ e) z
 
-out-keep : (at : ℕ → ℕ) (i k j : ℕ) → j ≢ i → at j ≡ 1 → upd at i k j ≡ 1
-out-keep at i k j n e = upd-other at i k j n ∙ e
-
 -- ---- tickets
 
 up-is : (r n : ℕ) → r ≡ n % wrap → up r ≡ suc n % wrap
 up-is r n e = omega arith
 
+-- i takes the next ticket
 tickets-snoc : (mine : ℕ → ℕ) (request n i : ℕ) (q : List ℕ) → Without i q → Tickets mine request n q
     → Tickets (upd mine i request) (up request) n (q ++ i ∷ [])
 tickets-snoc mine request n i [] f t = (upd-same mine i request ∙ t, up-is request n t)
@@ -101,6 +104,7 @@ module _ (s : Settings) (small : s .procs ≤ mostTicket + 1) (x : State) (at : 
   line-snoc i [] g f l = (h2 (upd-same at i 2) l, tt)
   line-snoc i (a ∷ r) g f l = (head-keep at i 2 a g (f .0) (l .0), waiting-snoc at i r (f .1) (l .1))
 
+  -- 1: i joins
   turn1 : (i : ℕ) (q g : List ℕ) → i < s .procs → Inv (s .procs) x at q g → Without i q → Next (asks s x i) i q g
   turn1 i q g b v f = record {
     q′ = q ++ i ∷ [];
@@ -113,7 +117,7 @@ module _ (s : Settings) (small : s .procs ≤ mostTicket + 1) (x : State) (at : 
       nodup = nodup-snoc i q f (v .nodup);
       below = below-snoc (s .procs) i q b (v .below);
       line = line-snoc i q g f (v .line);
-      out = λ j h. let w = without-init j i q h in out-keep at i 2 j (w .1) (v .out j (w .0));
+      out = λ j h. let w = without-init j i q h in upd-other at i 2 j (w .1) ∙ v .out j (w .0);
     };
   }
 
@@ -129,6 +133,7 @@ module _ (s : Settings) (small : s .procs ≤ mostTicket + 1) (x : State) (at : 
       let no : x .release ≢ x .mine i = omega arith in
       rw (waits-at at i r (v .line .1) m, ne-eqb _ _ no) (resting refl v)
 
+  -- 2: the first is let in
   turn2 : (a : ℕ) (r g : List ℕ) → Inv (s .procs) x at (a ∷ r) g → g ≡ [] → Next (waits true s x) a (a ∷ r) g
   turn2 a r g v z = record {
     q′ = a ∷ r;
@@ -141,10 +146,11 @@ module _ (s : Settings) (small : s .procs ≤ mostTicket + 1) (x : State) (at : 
       nodup = v .nodup;
       below = v .below;
       line = (h3 (upd-same at a 3) refl, waiting-keep at a 3 r (v .nodup .0) (v .line .1));
-      out = λ j f. out-keep at a 3 j (Ne·symm (f .0)) (v .out j f);
+      out = λ j f. upd-other at a 3 j (Ne·symm (f .0)) ∙ v .out j f;
     };
   }
 
+  -- 3: the holder goes, and the next is the first
   turn3 : (a : ℕ) (r g : List ℕ) → Inv (s .procs) x at (a ∷ r) g → g ≡ a ∷ [] → Next (frees s x) a (a ∷ r) g
   turn3 a r g v z = record {
     q′ = r;
@@ -167,7 +173,7 @@ module _ (s : Settings) (small : s .procs ≤ mostTicket + 1) (x : State) (at : 
 
       gone : (j : ℕ) → Without j r → Dec (j ≡ a) → upd at a 1 j ≡ 1
       gone j f (yes e) = rw e (upd-same at a 1)
-      gone j f (no n) = out-keep at a 1 j n (v .out j (Ne·symm n, f))
+      gone j f (no n) = upd-other at a 1 j n ∙ v .out j (Ne·symm n, f)
 
   head-turn : (a : ℕ) (r g : List ℕ) → Inv (s .procs) x at (a ∷ r) g → Next (step s x (at a) a) a (a ∷ r) g
   unfolding step
@@ -186,6 +192,7 @@ module _ (s : Settings) (small : s .procs ≤ mostTicket + 1) (x : State) (at : 
       go q v (first {r = r}) = head-turn i r g v
       go q v (behind {a = a} {r = r} m) = wait-turn a i r g v m
 
+  -- the first of the line, where nobody holds
   first-waits : (f : ℕ) (r : List ℕ) → Inv (s .procs) x at (f ∷ r) [] → (at f ≢ 1) × (at f ≢ 3) × (step s x (at f) f .says ≡ one grant)
   unfolding step
   first-waits f r v = go (v .line .0)
@@ -194,6 +201,7 @@ module _ (s : Settings) (small : s .procs ≤ mostTicket + 1) (x : State) (at : 
       go (h2 e z) = (omega arith, omega arith, rw (e, eq-eqb _ _ (v .now ∙ sym (v .tickets .0))) refl)
       go (h3 e z) = absurd (zero-suc (ap length z))
 
+-- only a grant starts hold turns, and it goes to 3
 enters-3 : (s : Settings) (x : State) (k i : ℕ) → Enters 3 (step s x k i)
 unfolding step
 enters-3 s x k i = or 1 (no-hold refl) (or 2 (wait (eqb (x .release) (x .mine i))) (no-hold refl))
@@ -220,6 +228,7 @@ requested : (mine : ℕ → ℕ) (request n : ℕ) (q : List ℕ) → Tickets mi
 requested mine request n [] t = t ∙ omega arith
 requested mine request n (a ∷ q) t = requested mine request (suc n) q (t .1) ∙ omega arith
 
+-- and that is at most the number of processors
 pub within : (s : Settings) (small : s .procs ≤ mostTicket + 1) (t : s .ticket ≤ mostTicket) (x : State) (at : ℕ → ℕ) (q g : List ℕ)
     → ticket s small t .Inv x at q g → Within (s .procs) x
 unfolding ticket
