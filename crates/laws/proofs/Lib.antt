@@ -1,5 +1,13 @@
 pub mod Beginnings
 pub mod Totals
 pub mod Courses
+pub mod Lists
+pub mod Locks
+pub mod McsLine
+pub mod McsTurns
+pub mod TicketTurns
+pub mod Lines
+pub mod Costs
+pub mod McsCost
 pub mod Doubling
 pub mod Refusals

@@ -1,6 +1,6 @@
 pub mod Store
 pub mod Accepted
-pub mod Plays
 pub mod Steps
+pub mod Plays
 pub mod Counts
 pub mod Views

@@ -1,0 +1,108 @@
+-- The waiting line of both locks; and that two locks agree on who comes next.
+use mathlib.Core.Path.{_≡_, refl, sym, ap, _∙_}
+use mathlib.Core.Bool.{Bool, true}
+use mathlib.Core.List.{List, [], _∷_, _++_, append-assoc}
+use Prim.Native.Nat.{ℕ}
+use native.Mathlib.Omega.{arith}
+use lib.Dec.{eqb}
+use lib.ListN.{length}
+use Rattle.rules.specs.Settings.{Settings}
+use Rattle.rules.specs.Step.{nothing, one, join, grant, Event, Machine}
+use Rattle.rules.specs.Play.{whole}
+use Rattle.rules.specs.Ticket as ticket
+use Rattle.rules.specs.Mcs as mcs
+use Rattle.rules.specs.Machines.{Line, table, noLine, find, lock, barrier, known, numbered, machine}
+use Rattle.rules.specs.Calls.{allBelow, refusal}
+use Rattle.rules.proofs.Store.{either, false-true}
+use Rattle.rules.proofs.Accepted.{Accepted, accepted, all-below, below-first}
+use Rattle.laws.specs.Laws.{Prefix, of, InLine, LockRun, ticket-run, queue-run, Within, ComesNext, was-granted, is-first}
+use Rattle.laws.proofs.Locks.{in-line, good}
+use Rattle.laws.proofs.TicketTurns as tickets
+use Rattle.laws.proofs.McsTurns.{queue}
+
+-- ---- the line
+
+pub line : (m : Machine) (s : Settings) (t : List ℕ) → LockRun m s t → InLine m s t
+line m s t (ticket-run small first b) = in-line ticket.machine s (tickets.ticket s small first) t b
+line m s t (queue-run b) = in-line mcs.machine s (queue s) t b
+
+-- every line of the list has P, and so has the line of an unknown number
+abbrev Each : (Line → Type 1) → List Line → Type 1
+Each P [] = P noLine
+Each P (l ∷ ls) = P l × Each P ls
+
+-- then the line that is found has it
+found : (P : Line → Type 1) (test : Line → Bool) (ls : List Line) → Each P ls → P (find test ls)
+found P test [] h = h
+found P test (l ∷ ls) h = either P (test l) l (find test ls) (h .0) (found P test ls (h .1))
+
+-- the run over a beginning of an accepted schedule is a lock run where the settings name a lock: by the lines of the table
+pub lock-run : (s : Settings) (t u : List ℕ) → Accepted s (t ++ u) → numbered (s .algo) .sort ≡ lock → LockRun (machine (s .algo)) s t
+lock-run s t u a =
+    found (λ l. known l ≡ true → l .sort ≡ lock → LockRun (l .machine) s t) (λ l. eqb (s .algo) (l .number)) table
+    (λ k l. ticket-run (omega (arith, a .procs-high)) (a .ticket) b, (λ k l. queue-run b, (λ k. no-lock, (λ k. no-lock, λ k. absurd (false-true k))))) (a .algo)
+  where
+    b : allBelow (s .procs) t ≡ true
+    b = all-below (s .procs) t (below-first (s .procs) t u (a .turns-below))
+
+    no-lock : {m : Machine} → barrier ≡ lock → LockRun m s t
+    no-lock e = let z : _≡_ {A = ℕ} 0 1 = cc in absurd (omega arith)
+
+pub line-accepted : (s : Settings) (t u : List ℕ) (roomy : Bool) → refusal s (t ++ u) roomy ≡ 0 → numbered (s .algo) .sort ≡ lock
+    → InLine (machine (s .algo)) s t
+line-accepted s t u roomy e l = line (machine (s .algo)) s t (lock-run s t u (accepted s (t ++ u) roomy e .0) l)
+
+-- ---- the counters of the ticket lock
+
+pub distance : (s : Settings) (t : List ℕ) → LockRun ticket.machine s t → Within (s .procs) (whole ticket.machine s t .memory)
+unfolding mcs.step ticket.step
+distance s t r = go ticket.machine s t r refl
+  where
+    differ : nothing ≡ one join → ⊥
+    differ e = let z : _≡_ {A = ℕ} 0 1 = cc in omega arith
+
+    -- the machines differ in what they say at step 1
+    go : (m : Machine) (s : Settings) (t : List ℕ) → LockRun m s t → m ≡ ticket.machine → Within (s .procs) (whole ticket.machine s t .memory)
+    go m s t (ticket-run small first b) e =
+        let w = good ticket.machine s (tickets.ticket s small first) t b in
+        tickets.within s small first _ _ _ _ (w .line .inv)
+    go m s t (queue-run b) e = absurd (differ (ap (λ (m : Machine). m .step s (m .start s) 1 0 .says) e))
+
+-- ---- two locks
+
+-- f stands at place k of the list
+record Stands (k f : ℕ) (l : List ℕ) : Type 0 where
+  before : List ℕ
+  behind : List ℕ
+  place : length before ≡ k
+  is : l ≡ before ++ f ∷ behind
+
+-- and so of a longer list
+stands-on : {k f : ℕ} {a b : List ℕ} → Stands k f a → Prefix a b → Stands k f b
+stands-on {f = f} x p = record {
+  before = x .before;
+  behind = x .behind ++ p .rest;
+  place = x .place;
+  is = sym (p .adds) ∙ ap (λ (l : List ℕ). l ++ p .rest) (x .is) ∙ append-assoc (x .before) (f ∷ x .behind) (p .rest);
+}
+
+-- one only stands there
+same : {k f g : ℕ} {l : List ℕ} → Stands k f l → Stands k g l → f ≡ g
+same {f = f} {g = g} x y = go (x .before) (y .before) (x .place ∙ sym (y .place)) (sym (x .is) ∙ y .is)
+  where
+    go : (a b : List ℕ) → length a ≡ length b → a ++ f ∷ x .behind ≡ b ++ g ∷ y .behind → f ≡ g
+    go [] [] l e = cc
+    go [] (b ∷ bs) l e = absurd (omega arith)
+    go (a ∷ as′) [] l e = absurd (omega arith)
+    go (a ∷ as′) (b ∷ bs) l e = go as′ bs (omega arith) (cc)
+
+-- who comes next after k grants joined at place k
+joined : (k f : ℕ) (es : List Event) → Prefix (of grant es) (of join es) → ComesNext k f es → Stands k f (of join es)
+joined k f es p (was-granted a b l e) = stands-on (record { before = a; behind = b; place = l; is = e }) p
+joined k f es p (is-first b l e) = record { before = of grant es; behind = b; place = l; is = e }
+
+pub agree : (m n : Machine) (s w : Settings) (t u : List ℕ) → LockRun m s t → LockRun n w u
+    → Prefix (of join (whole m s t .events)) (of join (whole n w u .events))
+    → (k f g : ℕ) → ComesNext k f (whole m s t .events) → ComesNext k g (whole n w u .events) → f ≡ g
+agree m n s w t u a b p k f g c d =
+    same (stands-on (joined k f _ (line m s t a .granted) c) p) (joined k g _ (line n w u b .granted) d)

@@ -1,0 +1,238 @@
+-- Every step keeps the line of the ticket lock. The k-th of the line has ticket n + k, n the number of the first, all taken modulo 65536.
+use mathlib.Core.Path.{_≡_, refl, sym, ap, _∙_}
+use mathlib.Core.Logic.{_≢_, inl, inr, Ne·symm}
+use mathlib.Core.Bool.{Bool, true, false}
+use mathlib.Core.List.{List, [], _∷_, _++_}
+use Prim.Native.Nat.{ℕ, suc, _+_, _%_, _≤_, _<_}
+use native.Mathlib.Decide.{ℕ-discrete}
+use native.Mathlib.Omega.{arith}
+use borrow.Author.Tests.{eq-eqb, ne-eqb}
+use lib.Dec.{eqb}
+use lib.ListN.{length}
+use Rattle.rules.specs.Memory.{pick, upd}
+use Rattle.rules.specs.Bounds.{mostTicket}
+use Rattle.rules.specs.Settings.{Settings}
+use Rattle.rules.specs.Step.{grant, one, Step}
+use Rattle.rules.specs.Ticket.{State, up, asks, waits, frees, step, machine}
+use Rattle.rules.proofs.Store.{upd-same, upd-other, zero-suc, either}
+use Rattle.rules.proofs.Accepted.{Below}
+use Rattle.laws.specs.Laws.{Without, Within}
+use Rattle.laws.proofs.Lists.{Mem, NoDup, Place, outside, first, behind, find, without-init, nodup-snoc, pigeon, below-snoc}
+use Rattle.laws.proofs.Locks as locks
+use Rattle.laws.proofs.Locks.{joins, gets, After, resting, Enters, no-hold, into}
+
+-- tickets are taken modulo this
+abbrev wrap : ℕ
+wrap = mostTicket + 1
+
+-- the tickets of the line, from number n, and the next to be given
+abbrev Tickets : (ℕ → ℕ) → ℕ → ℕ → List ℕ → Type 0
+Tickets mine request n [] = request ≡ n % wrap
+Tickets mine request n (a ∷ r) = (mine a ≡ n % wrap) × Tickets mine request (suc n) r
+
+-- a is the first of the line, and g is a alone if a holds the lock, else nobody
+data Head (at : ℕ → ℕ) (a : ℕ) (g : List ℕ) : Type 0 where
+  h2 : at a ≡ 2 → g ≡ [] → Head at a g
+  h3 : at a ≡ 3 → g ≡ a ∷ [] → Head at a g
+
+-- all of these wait at step 2
+abbrev Waiting : (ℕ → ℕ) → List ℕ → Type 0
+Waiting at [] = Unit {0}
+Waiting at (a ∷ r) = (at a ≡ 2) × Waiting at r
+
+abbrev Line : (ℕ → ℕ) → List ℕ → List ℕ → Type 0
+Line at [] g = g ≡ []
+Line at (a ∷ r) g = Head at a g × Waiting at r
+
+-- n is the number of the first of the line, or of the next to come; who is outside is at step 1
+record Inv (p : ℕ) (x : State) (at : ℕ → ℕ) (q g : List ℕ) : Type 0 where
+  n : ℕ
+  now : x .release ≡ n % wrap
+  tickets : Tickets (x .mine) (x .request) n q
+  nodup : NoDup q
+  below : Below p q
+  line : Line at q g
+  out : (j : ℕ) → Without j q → at j ≡ 1
+
+-- ---- what a step leaves alone
+
+-- those who wait still do when another goes to step k
+waiting-keep : (at : ℕ → ℕ) (i k : ℕ) (r : List ℕ) → Without i r → Waiting at r → Waiting (upd at i k) r
+waiting-keep at i k [] f w = tt
+waiting-keep at i k (b ∷ r) f w = (upd-other at i k b (f .0) ∙ w .0, waiting-keep at i k r (f .1) (w .1))
+
+-- and when another comes to wait behind them
+waiting-snoc : (at : ℕ → ℕ) (i : ℕ) (r : List ℕ) → Without i r → Waiting at r → Waiting (upd at i 2) (r ++ i ∷ [])
+waiting-snoc at i [] f w = (upd-same at i 2, tt)
+waiting-snoc at i (b ∷ r) f w = (upd-other at i 2 b (f .0) ∙ w .0, waiting-snoc at i r (f .1) (w .1))
+
+waits-at : (at : ℕ → ℕ) (i : ℕ) (r : List ℕ) → Waiting at r → Mem i r → at i ≡ 2
+waits-at at i (b ∷ r) w (inl e) = ap at (sym e) ∙ w .0
+waits-at at i (b ∷ r) w (inr m) = waits-at at i r (w .1) m
+waits-at at i [] w m = absurd m
+
+head-keep : (at : ℕ → ℕ) (i k a : ℕ) (g : List ℕ) → a ≢ i → Head at a g → Head (upd at i k) a g
+head-keep at i k a g n (h2 e z) = h2 (upd-other at i k a n ∙ e) z
+head-keep at i k a g n (h3 e z) = h3 (upd-other at i k a n ∙ e) z
+
+-- ---- tickets
+
+up-is : (r n : ℕ) → r ≡ n % wrap → up r ≡ suc n % wrap
+up-is r n e = omega arith
+
+-- i takes the next ticket
+tickets-snoc : (mine : ℕ → ℕ) (request n i : ℕ) (q : List ℕ) → Without i q → Tickets mine request n q
+    → Tickets (upd mine i request) (up request) n (q ++ i ∷ [])
+tickets-snoc mine request n i [] f t = (upd-same mine i request ∙ t, up-is request n t)
+tickets-snoc mine request n i (a ∷ q) f t = (upd-other mine i request a (f .0) ∙ t .0, tickets-snoc mine request (suc n) i q (f .1) (t .1))
+
+-- one in line has the ticket of its place
+ticket-of : (mine : ℕ → ℕ) (request n i : ℕ) (r : List ℕ) → Tickets mine request n r → Mem i r → (k : ℕ) × (k < length r) × (mine i ≡ (n + k) % wrap)
+ticket-of mine request n i (b ∷ r) t (inl e) = (0, omega arith, ap mine (sym e) ∙ t .0 ∙ omega arith)
+ticket-of mine request n i (b ∷ r) t (inr m) =
+    let w = ticket-of mine request (suc n) i r (t .1) m in
+    (suc (w .0), omega (arith, w .1), omega (arith, w .2))
+ticket-of mine request n i [] t m = absurd m
+
+-- ---- a turn
+
+module _ (s : Settings) (small : s .procs ≤ mostTicket + 1) (x : State) (at : ℕ → ℕ) where
+  abbrev Next : Step State → ℕ → List ℕ → List ℕ → Type 0
+  Next t i q g = After (Inv (s .procs)) t at i q g
+
+  line-snoc : (i : ℕ) (q g : List ℕ) → Without i q → Line at q g → Line (upd at i 2) (q ++ i ∷ []) g
+  line-snoc i [] g f l = (h2 (upd-same at i 2) l, tt)
+  line-snoc i (a ∷ r) g f l = (head-keep at i 2 a g (f .0) (l .0), waiting-snoc at i r (f .1) (l .1))
+
+  -- 1: i joins
+  turn1 : (i : ℕ) (q g : List ℕ) → i < s .procs → Inv (s .procs) x at q g → Without i q → Next (asks s x i) i q g
+  turn1 i q g b v f = record {
+    q′ = q ++ i ∷ [];
+    g′ = g;
+    moves = joins;
+    inv = record {
+      n = v .n;
+      now = v .now;
+      tickets = tickets-snoc (x .mine) (x .request) (v .n) i q f (v .tickets);
+      nodup = nodup-snoc i q f (v .nodup);
+      below = below-snoc (s .procs) i q b (v .below);
+      line = line-snoc i q g f (v .line);
+      out = λ j h. let w = without-init j i q h in upd-other at i 2 j (w .1) ∙ v .out j (w .0);
+    };
+  }
+
+  -- one who waits behind the first: its ticket is not the one that is served
+  wait-turn : (a i : ℕ) (r g : List ℕ) → Inv (s .procs) x at (a ∷ r) g → Mem i r → Next (step s x (at i) i) i (a ∷ r) g
+  unfolding step
+  wait-turn a i r g v m =
+      let w = ticket-of (x .mine) (x .request) (suc (v .n)) i r (v .tickets .1) m in
+      let l = pigeon (s .procs) (a ∷ r) (v .nodup) (v .below) in
+      let z = v .now in
+      let k = w .1 in
+      let e = w .2 in
+      let no : x .release ≢ x .mine i = omega arith in
+      rw (waits-at at i r (v .line .1) m, ne-eqb _ _ no) (resting refl v)
+
+  -- 2: the first is let in
+  turn2 : (a : ℕ) (r g : List ℕ) → Inv (s .procs) x at (a ∷ r) g → g ≡ [] → Next (waits true s x) a (a ∷ r) g
+  turn2 a r g v z = record {
+    q′ = a ∷ r;
+    g′ = a ∷ [];
+    moves = rw z gets;
+    inv = record {
+      n = v .n;
+      now = v .now;
+      tickets = v .tickets;
+      nodup = v .nodup;
+      below = v .below;
+      line = (h3 (upd-same at a 3) refl, waiting-keep at a 3 r (v .nodup .0) (v .line .1));
+      out = λ j f. upd-other at a 3 j (Ne·symm (f .0)) ∙ v .out j f;
+    };
+  }
+
+  -- 3: the holder goes, and the next is the first
+  turn3 : (a : ℕ) (r g : List ℕ) → Inv (s .procs) x at (a ∷ r) g → g ≡ a ∷ [] → Next (frees s x) a (a ∷ r) g
+  turn3 a r g v z = record {
+    q′ = r;
+    g′ = [];
+    moves = rw z locks.frees;
+    inv = record {
+      n = suc (v .n);
+      now = up-is (x .release) (v .n) (v .now);
+      tickets = v .tickets .1;
+      nodup = v .nodup .1;
+      below = v .below .1;
+      line = next-first r (waiting-keep at a 1 r (v .nodup .0) (v .line .1));
+      out = λ j f. gone j f (ℕ-discrete j a);
+    };
+  }
+    where
+      next-first : (r : List ℕ) → Waiting (upd at a 1) r → Line (upd at a 1) r []
+      next-first [] w = refl
+      next-first (b ∷ r) w = (h2 (w .0) refl, w .1)
+
+      gone : (j : ℕ) → Without j r → Dec (j ≡ a) → upd at a 1 j ≡ 1
+      gone j f (yes e) = rw e (upd-same at a 1)
+      gone j f (no n) = upd-other at a 1 j n ∙ v .out j (Ne·symm n, f)
+
+  head-turn : (a : ℕ) (r g : List ℕ) → Inv (s .procs) x at (a ∷ r) g → Next (step s x (at a) a) a (a ∷ r) g
+  unfolding step
+  head-turn a r g v = go (v .line .0)
+    where
+      go : Head at a g → Next (step s x (at a) a) a (a ∷ r) g
+      go (h2 e z) = rw (e, eq-eqb _ _ (v .now ∙ sym (v .tickets .0))) (turn2 a r g v z)
+      go (h3 e z) = rw e (turn3 a r g v z)
+
+  one-turn : (i : ℕ) (q g : List ℕ) → i < s .procs → Inv (s .procs) x at q g → Next (step s x (at i) i) i q g
+  unfolding step
+  one-turn i q g b v = go q v (find i q)
+    where
+      go : (q : List ℕ) → Inv (s .procs) x at q g → Place i q → Next (step s x (at i) i) i q g
+      go q v (outside f) = rw (v .out i f) (turn1 i q g b v f)
+      go q v (first {r = r}) = head-turn i r g v
+      go q v (behind {a = a} {r = r} m) = wait-turn a i r g v m
+
+  -- the first of the line, where nobody holds
+  first-waits : (f : ℕ) (r : List ℕ) → Inv (s .procs) x at (f ∷ r) [] → (at f ≢ 1) × (at f ≢ 3) × (step s x (at f) f .says ≡ one grant)
+  unfolding step
+  first-waits f r v = go (v .line .0)
+    where
+      go : Head at f [] → (at f ≢ 1) × (at f ≢ 3) × (step s x (at f) f .says ≡ one grant)
+      go (h2 e z) = (omega arith, omega arith, rw (e, eq-eqb _ _ (v .now ∙ sym (v .tickets .0))) refl)
+      go (h3 e z) = absurd (zero-suc (ap length z))
+
+-- only a grant starts hold turns, and it goes to 3
+enters-3 : (s : Settings) (x : State) (k i : ℕ) → Enters 3 (step s x k i)
+unfolding step
+enters-3 s x k i = or 1 (no-hold refl) (or 2 (wait (eqb (x .release) (x .mine i))) (no-hold refl))
+  where
+    or : (n : ℕ) {t u : Step State} → Enters 3 t → Enters 3 u → Enters 3 (pick (eqb k n) t u)
+    or n {t} {u} = either (Enters 3) (eqb k n) t u
+
+    wait : (b : Bool) → Enters 3 (waits b s x)
+    wait true = into refl
+    wait false = no-hold refl
+
+pub ticket : (s : Settings) → s .procs ≤ mostTicket + 1 → s .ticket ≤ mostTicket → locks.Lock machine s
+ticket s small t = record {
+  Inv = Inv (s .procs);
+  in-it = 3;
+  start = record { n = s .ticket; now = omega arith; tickets = omega arith; nodup = tt; below = tt; line = refl; out = λ j f. refl };
+  step = λ x at i q g b v. one-turn s small x at i q g b v;
+  waits = λ x at f r v. first-waits s small x at f r v;
+  enters-it = enters-3 s;
+}
+
+-- the request counter is as far past the release counter as the line is long
+requested : (mine : ℕ → ℕ) (request n : ℕ) (q : List ℕ) → Tickets mine request n q → request ≡ (n + length q) % wrap
+requested mine request n [] t = t ∙ omega arith
+requested mine request n (a ∷ q) t = requested mine request (suc n) q (t .1) ∙ omega arith
+
+-- and that is at most the number of processors
+pub within : (s : Settings) (small : s .procs ≤ mostTicket + 1) (t : s .ticket ≤ mostTicket) (x : State) (at : ℕ → ℕ) (q g : List ℕ)
+    → ticket s small t .Inv x at q g → Within (s .procs) x
+unfolding ticket
+within s small t x at q g v =
+    let e = requested (x .mine) (x .request) (v .n) q (v .tickets) in
+    let r = v .now in
+    record { distance = length q; at-most = pigeon (s .procs) q (v .nodup) (v .below); apart = omega arith }
