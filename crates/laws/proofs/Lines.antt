@@ -2,12 +2,13 @@
 use mathlib.Core.Path.{_≡_, refl, sym, ap, _∙_}
 use mathlib.Core.Bool.{Bool, true}
 use mathlib.Core.List.{List, [], _∷_, _++_, append-assoc}
-use Prim.Native.Nat.{ℕ}
+use Prim.Native.Nat.{ℕ, _+_, _≤_}
 use native.Mathlib.Omega.{arith}
 use lib.Dec.{eqb}
 use lib.ListN.{length}
+use Rattle.rules.specs.Bounds.{mostTicket}
 use Rattle.rules.specs.Settings.{Settings}
-use Rattle.rules.specs.Step.{nothing, one, join, grant, Event, Machine}
+use Rattle.rules.specs.Step.{join, grant, Event, Machine}
 use Rattle.rules.specs.Play.{whole}
 use Rattle.rules.specs.Ticket as ticket
 use Rattle.rules.specs.Mcs as mcs
@@ -54,19 +55,9 @@ line-accepted s t u roomy e l = line (machine (s .algo)) s t (lock-run s t u (ac
 
 -- ---- the counters of the ticket lock
 
-pub distance : (s : Settings) (t : List ℕ) → LockRun ticket.machine s t → Within (s .procs) (whole ticket.machine s t .memory)
-unfolding mcs.step ticket.step
-distance s t r = go ticket.machine s t r refl
-  where
-    differ : nothing ≡ one join → ⊥
-    differ e = let z : _≡_ {A = ℕ} 0 1 = cc in omega arith
-
-    -- the machines differ in what they say at step 1
-    go : (m : Machine) (s : Settings) (t : List ℕ) → LockRun m s t → m ≡ ticket.machine → Within (s .procs) (whole ticket.machine s t .memory)
-    go m s t (ticket-run small first b) e =
-        let w = good ticket.machine s (tickets.ticket s small first) t b in
-        tickets.within s small first _ _ _ _ (w .line .inv)
-    go m s t (queue-run b) e = absurd (differ (ap (λ (m : Machine). m .step s (m .start s) 1 0 .says) e))
+pub distance : (s : Settings) (t : List ℕ) → s .procs ≤ mostTicket + 1 → s .ticket ≤ mostTicket → allBelow (s .procs) t ≡ true
+    → Within (s .procs) (whole ticket.machine s t .memory)
+distance s t small first b = tickets.within s small first _ _ _ _ (good ticket.machine s (tickets.ticket s small first) t b .line .inv)
 
 -- ---- two locks
 

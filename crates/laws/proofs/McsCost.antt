@@ -10,10 +10,10 @@ use Rattle.rules.specs.Settings.{Settings}
 use Rattle.rules.specs.Step.{read, write, writes, atomics, remote, Step}
 use Rattle.rules.specs.Course.{turn}
 use Rattle.rules.specs.Tally.{begun}
-use Rattle.rules.specs.Play.{taking, after, play, whole}
+use Rattle.rules.specs.Play.{taking, within, after, play, whole}
 use Rattle.rules.specs.Mcs.{State, swaps, waits, looks, drains, rereads, step, machine}
 use Rattle.rules.proofs.Steps.{place, remote≤, own}
-use Rattle.laws.specs.Laws.{threeBoards, fourTurns}
+use Rattle.laws.specs.Laws.{mostReferences, threeBoards, fourTurns}
 use Rattle.laws.proofs.Costs.{Cost, at-most}
 
 -- how many references of its passage a processor may have made before each step
@@ -31,7 +31,7 @@ data Cap (k h : ℕ) : Type 0 where
 module _ (s : Settings) (x : State) (i h : ℕ) where
   -- after step t, made at k
   abbrev Fine : ℕ → Step State → Type 0
-  Fine k t = Cap (place (t .then) k) (begun k h + remote i (t .access)) × (begun k h + remote i (t .access) ≤ 4)
+  Fine k t = Cap (place (t .then) k) (begun k h + remote i (t .access)) × (begun k h + remote i (t .access) ≤ mostReferences)
 
   swap : (n : ℕ) → h ≤ 0 → Fine 2 (swaps n s x i)
   swap zero l = let r = remote≤ i (atomics (s .home) 0) in (c7 refl (omega arith), omega arith)
@@ -66,13 +66,13 @@ module _ (s : Settings) (x : State) (i h : ℕ) where
   costs k (c10 e l) = let r = remote≤ i (writes (x .succ i) 2) in rw e (c1 refl, omega arith)
 
 mcs-cost : (s : Settings) → Cost machine s
-mcs-cost s = record { Cap = Cap; top = 4; start = c1 refl; step = λ x k i h c. costs s x i h k c }
+mcs-cost s = record { Cap = Cap; top = mostReferences; start = c1 refl; step = λ x k i h c. costs s x i h k c }
 
 -- no passage, finished or not, makes more than four
-pub four : (s : Settings) (t : List ℕ) (i : ℕ) → whole machine s t .tally .most i ≤ 4
+pub four : (s : Settings) (t : List ℕ) (i : ℕ) → whole machine s t .tally .most i ≤ mostReferences
 unfolding mcs-cost
 four s = at-most machine s (mcs-cost s)
 
-pub four-reached : whole machine threeBoards fourTurns .tally .most 2 ≡ 4
-unfolding whole play after taking turn remote upd step
+pub four-reached : whole machine threeBoards fourTurns .tally .most 2 ≡ mostReferences
+unfolding whole play after within taking turn remote upd step
 four-reached = refl

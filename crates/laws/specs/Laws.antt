@@ -159,7 +159,11 @@ fileOf w = take (w .answer .count) (w .out)
 abbrev pub farthest : ℕ
 farthest = longestFile + mostDigits + 1
 
--- a passage that makes four references: processor 2 finds 1 in line before it, and 0 joins behind it while it leaves
+-- a passage of the queue lock makes at most so many remote references
+abbrev pub mostReferences : ℕ
+mostReferences = 4
+
+-- a passage that makes as many: processor 2 finds 1 in line before it, and 0 joins behind it while it leaves
 abbrev pub threeBoards : Settings
 threeBoards = record { algo = 2; procs = 3; home = 0; ticket = 0; budget = 16384; rounds = 1 ∷ 1 ∷ 1 ∷ []; hold = [] }
 
@@ -233,7 +237,7 @@ pub record Longest : Type 0 where
 
 -- the bounds are reached
 pub record Reached : Type 0 where
-  pub four : whole mcs.machine threeBoards fourTurns .tally .most 2 ≡ 4
+  pub four : whole mcs.machine threeBoards fourTurns .tally .most 2 ≡ mostReferences
   pub longest : (bytes : List ℕ) × (length bytes ≡ longestFile) × (reading bytes (replicate mostTurns 0) .answer .number ≡ 0)
 
 -- R doublings of 1 reach P, and no fewer do
@@ -248,13 +252,14 @@ pub record Laws : Type 1 where
   pub courses : Courses
   pub line : Line
   -- the ticket lock's counters are at most P apart
-  pub distance : (s : Settings) (t : List ℕ) → LockRun ticket.machine s t → Within (s .procs) (whole ticket.machine s t .memory)
+  pub distance : (s : Settings) (t : List ℕ) → s .procs ≤ mostTicket + 1 → s .ticket ≤ mostTicket → allBelow (s .procs) t ≡ true
+      → Within (s .procs) (whole ticket.machine s t .memory)
   -- two lock runs, the joins of the one a beginning of the other's, never disagree on who comes next
   pub agree : (m n : Machine) (s w : Settings) (t u : List ℕ) → LockRun m s t → LockRun n w u
       → Prefix (of join (whole m s t .events)) (of join (whole n w u .events))
       → (k f g : ℕ) → ComesNext k f (whole m s t .events) → ComesNext k g (whole n w u .events) → f ≡ g
   -- in the queue lock no passage, finished or not, makes more than four remote references
-  pub four : (s : Settings) (t : List ℕ) (i : ℕ) → whole mcs.machine s t .tally .most i ≤ 4
+  pub four : (s : Settings) (t : List ℕ) (i : ℕ) → whole mcs.machine s t .tally .most i ≤ mostReferences
   pub refusals : Refusals
   -- what read accepted, write gives back byte for byte where it has room
   pub read-write : (bytes schedule out : List ℕ)
