@@ -10,16 +10,37 @@ use borrow.Author.Tests.{eq-eqb, ne-eqb, lt-ltb, le-ltb, eqb-false, eqb-true}
 use lib.Dec.{eqb, ltb}
 use Rattle.rules.specs.Memory.{pick, upd}
 use Rattle.rules.specs.Settings.{Settings, entry}
-use Rattle.rules.specs.Step.{Next, stay, to, over, Step, Machine}
-use Rattle.rules.specs.Course.{Course, Turn, holds, idles, makes, turn, holding, goes, ends, says, course}
+use Rattle.rules.specs.Step.{Kind, join, grant, release, arrive, leave, Says, nothing, one, two, said, Next, stay, to, over, Machine}
+use Rattle.rules.specs.Course.{Course, Turn, holds, idles, makes, turn, begins, holding, goes, ends, says, course}
 use Rattle.rules.specs.Play.{Run, first, next, taking, after, play, whole}
 use Rattle.rules.proofs.Store.{upd-same, upd-other, either, by-test, false-true}
 use Rattle.rules.proofs.Plays.{by-after, by-whole, continued, goes-on, after-taken}
-use Rattle.laws.specs.Laws.{times}
+use Rattle.laws.specs.Laws.{times, GrantOrLeave}
+
+-- ---- hold turns
+
+-- what says a grant or a leave starts them
+starts-one : (i : ℕ) (k : Kind) → GrantOrLeave (said i (one k)) → begins k ≡ true
+starts-one i grant h = refl
+starts-one i leave h = refl
+starts-one i join (inl h) = absurd (h refl)
+starts-one i join (inr h) = absurd (h refl)
+starts-one i release (inl h) = absurd (h refl)
+starts-one i release (inr h) = absurd (h refl)
+starts-one i arrive (inl h) = absurd (h refl)
+starts-one i arrive (inr h) = absurd (h refl)
+
+starts : (i : ℕ) (w : Says) → GrantOrLeave (said i w) → holding w ≡ true
+starts i nothing (inl h) = absurd (h refl)
+starts i nothing (inr h) = absurd (h refl)
+starts i (one k) h = starts-one i k h
+starts i (two grant l) h = refl
+starts i (two leave l) h = refl
+starts i (two join l) h = starts-one i l h
+starts i (two release l) h = starts-one i l h
+starts i (two arrive l) h = starts-one i l h
 
 module _ (m : Machine) (s : Settings) where
-  -- ---- hold turns
-
   -- a turn of another leaves i's hold turns
   left-other : (j i : ℕ) (w : Turn (m .State)) (c : Course) → i ≢ j → course s j w c .left i ≡ c .left i
   left-other j i holds c n = upd-other (c .left) j _ i n
@@ -71,20 +92,20 @@ module _ (m : Machine) (s : Settings) where
           kept : (r : Run (m .State)) → j ≢ i → taking m s r j .course .left i ≡ r .course .left i
           kept r n = unfold taking in left-other j i (next m s r j) (r .course) (λ z. n (sym z))
 
-  held : (t u : List ℕ) (i : ℕ) → holding (says (next m s (whole m s t) i)) ≡ true → whole m s (t ++ i ∷ u) .stopped ≡ false
+  held : (t u : List ℕ) (i : ℕ) → GrantOrLeave (said i (says (next m s (whole m s t) i))) → whole m s (t ++ i ∷ u) .stopped ≡ false
       → times i u ≤ entry (s .hold) i → whole m s (t ++ i ∷ u) .course .left i + times i u ≡ entry (s .hold) i
   unfolding play taking
   held t u i h e l =
       let e′ : play m s u (after m s (whole m s t) i) .stopped ≡ false = rw (continued m s t (i ∷ u)) at e in
       let f : after m s (whole m s t) i .course .left i ≡ entry (s .hold) i =
-      rw (after-taken m s (whole m s t) i (goes-on m s u (after m s (whole m s t) i) e′)) (left-set i (next m s (whole m s t) i) (whole m s t .course) h) in
+      rw (after-taken m s (whole m s t) i (goes-on m s u (after m s (whole m s t) i) e′)) (left-set i (next m s (whole m s t) i) (whole m s t .course) (starts i (says (next m s (whole m s t) i)) h)) in
       rw (continued m s t (i ∷ u)) (left-after i u (after m s (whole m s t) i) e′ (omega arith) ∙ f)
 
-  pub hold-turns : (t u : List ℕ) (i : ℕ) → holding (says (next m s (whole m s t) i)) ≡ true → whole m s (t ++ i ∷ u) .stopped ≡ false
+  pub hold-turns : (t u : List ℕ) (i : ℕ) → GrantOrLeave (said i (says (next m s (whole m s t) i))) → whole m s (t ++ i ∷ u) .stopped ≡ false
       → times i u < entry (s .hold) i → next m s (whole m s (t ++ i ∷ u)) i ≡ holds
   hold-turns t u i h e l = is-hold (whole m s (t ++ i ∷ u) .memory) (whole m s (t ++ i ∷ u) .course) i (omega (arith, held t u i h e (omega arith)))
 
-  pub hold-over : (t u : List ℕ) (i : ℕ) → holding (says (next m s (whole m s t) i)) ≡ true → whole m s (t ++ i ∷ u) .stopped ≡ false
+  pub hold-over : (t u : List ℕ) (i : ℕ) → GrantOrLeave (said i (says (next m s (whole m s t) i))) → whole m s (t ++ i ∷ u) .stopped ≡ false
       → times i u ≡ entry (s .hold) i → next m s (whole m s (t ++ i ∷ u)) i ≢ holds
   hold-over t u i h e l = no-hold (whole m s (t ++ i ∷ u) .memory) (whole m s (t ++ i ∷ u) .course) i (omega (arith, held t u i h e (omega arith)))
 

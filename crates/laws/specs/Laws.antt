@@ -9,8 +9,8 @@ use lib.ListN.{length, take, replicate}
 use Rattle.rules.specs.Memory.{pick}
 use Rattle.rules.specs.Bounds.{mostProcs, mostTicket, mostBudget, mostRounds, mostHold, mostTurns, mostDigits, longestFile}
 use Rattle.rules.specs.Settings.{Settings, entry, noSettings}
-use Rattle.rules.specs.Step.{Access, remote, Kind, number, join, grant, release, Event, event, Machine}
-use Rattle.rules.specs.Course.{holds, holding, says}
+use Rattle.rules.specs.Step.{Access, remote, Kind, number, join, grant, release, leave, Event, event, said, Machine}
+use Rattle.rules.specs.Course.{holds, says}
 use Rattle.rules.specs.Tally.{access}
 use Rattle.rules.specs.Play.{Run, first, next, after, play, whole}
 use Rattle.rules.specs.Ticket as ticket
@@ -71,6 +71,12 @@ accesses m s (i ∷ t) r =
 abbrev pub remotes : List (ℕ × Access) → ℕ
 remotes [] = 0
 remotes (a ∷ l) = remote (a .0) (a .1) + remotes l
+
+-- ---- hold turns
+
+-- somebody is granted the lock, or leaves the barrier
+abbrev pub GrantOrLeave : List Event → Type 0
+GrantOrLeave es = (of grant es ≢ []) ⊎ (of leave es ≢ [])
 
 -- ---- the waiting line (demand 3)
 
@@ -194,10 +200,10 @@ pub record Courses : Type 1 where
   pub rounds : (m : Machine) (s : Settings) (t : List ℕ) (i : ℕ) → whole m s t .course .done i ≤ entry (s .rounds) i
   -- where a turn of i says a grant or a leave, the next `hold` turns of i are hold turns, whatever turns u come between, and the one after is none
   pub hold-turns : (m : Machine) (s : Settings) (t u : List ℕ) (i : ℕ)
-      → holding (says (next m s (whole m s t) i)) ≡ true → whole m s (t ++ i ∷ u) .stopped ≡ false
+      → GrantOrLeave (said i (says (next m s (whole m s t) i))) → whole m s (t ++ i ∷ u) .stopped ≡ false
       → times i u < entry (s .hold) i → next m s (whole m s (t ++ i ∷ u)) i ≡ holds
   pub hold-over : (m : Machine) (s : Settings) (t u : List ℕ) (i : ℕ)
-      → holding (says (next m s (whole m s t) i)) ≡ true → whole m s (t ++ i ∷ u) .stopped ≡ false
+      → GrantOrLeave (said i (says (next m s (whole m s t) i))) → whole m s (t ++ i ∷ u) .stopped ≡ false
       → times i u ≡ entry (s .hold) i → next m s (whole m s (t ++ i ∷ u)) i ≢ holds
 
 -- demand 3: for every lock run; and after every turn of an accepted call, and of an accepted file's schedule, that names a lock
