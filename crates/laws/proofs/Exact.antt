@@ -1,0 +1,171 @@
+-- A rule reads exactly the texts that T allows, each with its value, and refuses with a number. Stated once for any rule; kept by sequence and by a check.
+use Prim.Native.Nat.{ℕ, zero, suc, _+_, _≤_, _<_}
+use mathlib.Core.Path.{_≡_, refl, ap, sym, _∙_}
+use mathlib.Core.List.{List, [], _∷_, _++_, append-assoc}
+use mathlib.Core.Bool.{Bool, true, false}
+use lib.ListN.{length, length-append}
+use lib.Dec.{eqb}
+use borrow.Author.Tests.{eq-eqb, eqb-true}
+use native.Mathlib.Nat.{add-zero, add-assoc}
+use native.Mathlib.Omega.{arith}
+use Rattle.rules.specs.Memory.{pick}
+use Rattle.rules.specs.Rule.{Got, ok, fault, Rule, after, _>>=_, give, checked, lit}
+
+-- ---- what an accepted value tells
+
+module _ {A : Type 0} (v : A) (s : List ℕ) (at : ℕ) where
+  pub not-fault : (n p : ℕ) → fault n p ≡ ok v s at → ⊥
+  not-fault n p e = let z : _≡_ {A = ℕ} 0 1 = cc in omega arith
+
+  -- the test held
+  pub on-pick {ℓ} : {X : Type ℓ} (b : Bool) (g : Got A) (n p : ℕ) → pick b g (fault n p) ≡ ok v s at → (b ≡ true → g ≡ ok v s at → X) → X
+  on-pick true g n p e k = k refl e
+  on-pick false g n p e k = absurd (not-fault n p e)
+
+  -- the first rule accepted, and so did the second
+  pub on-after {ℓ} : {X : Type ℓ} {B : Type 0} (g : Got B) (f : B → Rule A) → after g f ≡ ok v s at
+      → ((b : B) (s′ : List ℕ) (at′ : ℕ) → g ≡ ok b s′ at′ → f b s′ at′ ≡ ok v s at → X) → X
+  on-after (ok b s′ at′) f e k = k b s′ at′ refl e
+  on-after (fault n p) f e k = absurd (not-fault n p e)
+
+-- a refusal has the number of one of two
+pub pick-refuses : {A : Type 0} (b : Bool) (g h : Got A) (n p : ℕ) → pick b g h ≡ fault n p
+    → (b ≡ true → g ≡ fault n p → 0 < n) → (b ≡ false → h ≡ fault n p → 0 < n) → 0 < n
+pick-refuses true g h n p e k l = k refl e
+pick-refuses false g h n p e k l = l refl e
+
+pub same-number : {A : Type 0} (m o n p : ℕ) → _≡_ {A = Got A} (fault m o) (fault n p) → 0 < m → 0 < n
+same-number m o n p e z = let q : m ≡ n = cc in omega arith
+
+pub not-ok : {A : Type 0} (v : A) (s : List ℕ) (at n p : ℕ) → ok v s at ≡ fault n p → ⊥
+not-ok v s at n p e = let z : _≡_ {A = ℕ} 0 1 = cc in omega arith
+
+-- ---- exact rules
+
+pub record Exact {A : Type 0} (r : Rule A) (T : List ℕ → A → Type 0) : Type 0 where
+  pub reads : (t : List ℕ) (v : A) → T t v → (s : List ℕ) (at : ℕ) → r (t ++ s) at ≡ ok v s (at + length t)
+  pub was : (s : List ℕ) (at : ℕ) (v : A) (s′ : List ℕ) (at′ : ℕ) → r s at ≡ ok v s′ at′ → (t : List ℕ) × (s ≡ t ++ s′) × T t v
+  pub refuses : (s : List ℕ) (at n p : ℕ) → r s at ≡ fault n p → 0 < n
+
+-- one text after another
+pub record Then {A B : Type 0} (T : List ℕ → A → Type 0) (U : A → List ℕ → B → Type 0) (t : List ℕ) (b : B) : Type 0 where
+  pub a : A
+  pub one : List ℕ
+  pub two : List ℕ
+  pub both : t ≡ one ++ two
+  pub first : T one a
+  pub second : U a two b
+
+module _ {A B : Type 0} {r : Rule A} {T : List ℕ → A → Type 0} {f : A → Rule B} {U : A → List ℕ → B → Type 0}
+    (er : Exact r T) (ef : (a : A) (t : List ℕ) → T t a → Exact (f a) (U a)) where
+  then-reads : (t : List ℕ) (b : B) → Then T U t b → (s : List ℕ) (at : ℕ) → _>>=_ r f (t ++ s) at ≡ ok b s (at + length t)
+  then-reads t b h s at =
+      rw (
+        h .both,
+        append-assoc (h .one) (h .two) s,
+        er .reads (h .one) (h .a) (h .first) (h .two ++ s) at,
+        ef (h .a) (h .one) (h .first) .reads (h .two) b (h .second) s (at + length (h .one)),
+        length-append (h .one) (h .two),
+        add-assoc,
+      )
+
+  then-was : (s : List ℕ) (at : ℕ) (b : B) (s′ : List ℕ) (at′ : ℕ) → _>>=_ r f s at ≡ ok b s′ at′ → (t : List ℕ) × (s ≡ t ++ s′) × Then T U t b
+  then-was s at b s′ at′ e =
+      on-after b s′ at′ (r s at) f e
+      (λ a s″ at″ g h.
+        let w = er .was s at a s″ at″ g in
+        let u = ef a (w .0) (w .2) .was s″ at″ b s′ at′ h in (
+          w .0 ++ u .0,
+          w .1 ∙ ap (λ (x : List ℕ). w .0 ++ x) (u .1) ∙ sym (append-assoc (w .0) (u .0) s′),
+          record { a = a; one = w .0; two = u .0; both = refl; first = w .2; second = u .2 },
+        ))
+
+  then-refuses : (s : List ℕ) (at n p : ℕ) → _>>=_ r f s at ≡ fault n p → 0 < n
+  then-refuses s at n p = go (r s at) refl
+    where
+      go : (g : Got A) → r s at ≡ g → after g f ≡ fault n p → 0 < n
+      go (ok a s′ at′) h q = let w = er .was s at a s′ at′ h in ef a (w .0) (w .2) .refuses s′ at′ n p q
+      go (fault m o) h q = same-number m o n p q (er .refuses s at m o h)
+
+  -- the second rule may go by what the first one's value is known to be
+  pub exact-on : Exact (_>>=_ r f) (Then T U)
+  exact-on = record { reads = then-reads; was = then-was; refuses = then-refuses }
+
+pub exact-then : {A B : Type 0} {r : Rule A} {T : List ℕ → A → Type 0} {f : A → Rule B} {U : A → List ℕ → B → Type 0}
+    → Exact r T → ((a : A) → Exact (f a) (U a)) → Exact (_>>=_ r f) (Then T U)
+exact-then er ef = exact-on er (λ a t h. ef a)
+
+pub exact-give : {A : Type 0} (v : A) → Exact (give v) (λ t w. (t ≡ []) × (w ≡ v))
+exact-give v = record {
+  reads = λ t w h s at. rw (h .0, h .1, add-zero);
+  was = λ s at w s′ at′ e. ([], cc, (refl, cc));
+  refuses = λ s at n p e. absurd (not-ok v s at n p e);
+}
+
+-- the same texts in other words
+pub exact-as : {A : Type 0} {r : Rule A} {T U : List ℕ → A → Type 0}
+    → Exact r T → ((t : List ℕ) (v : A) → T t v → U t v) → ((t : List ℕ) (v : A) → U t v → T t v) → Exact r U
+exact-as er f g = record {
+  reads = λ t v h s at. er .reads t v (g t v h) s at;
+  was = λ s at v s′ at′ e. let w = er .was s at v s′ at′ e in (w .0, w .1, f (w .0) v (w .2));
+  refuses = er .refuses;
+}
+
+-- a rule whose value is checked afterwards
+module _ {A : Type 0} {r : Rule A} {T : List ℕ → A → Type 0} (n : ℕ) (test : A → Bool) (z : 0 < n) (er : Exact r T) where
+  checked-was : (s : List ℕ) (at : ℕ) (v : A) (s′ : List ℕ) (at′ : ℕ) → checked n test r s at ≡ ok v s′ at′
+      → (t : List ℕ) × (s ≡ t ++ s′) × (T t v × (test v ≡ true))
+  checked-was s at v s′ at′ e =
+      on-after v s′ at′ (r s at) _ e
+      (λ w s″ at″ g h.
+        on-pick v s′ at′ (test w) (ok w s″ at″) n at h
+        (λ t k.
+          let u = er .was s at v s′ at′ (g ∙ k) in
+          let same : w ≡ v = cc in
+          (u .0, u .1, (u .2, rw same at t))))
+
+  checked-refuses : (s : List ℕ) (at m p : ℕ) → checked n test r s at ≡ fault m p → 0 < m
+  checked-refuses s at m p = go (r s at) refl
+    where
+      go : (g : Got A) → r s at ≡ g → after g (λ v s′ at′. pick (test v) (ok v s′ at′) (fault n at)) ≡ fault m p → 0 < m
+      go (ok v s′ at′) h q = pick-refuses (test v) _ _ m p q (λ t k. absurd (not-ok v s′ at′ m p k)) (λ t k. same-number n at m p k z)
+      go (fault l o) h q = same-number l o m p q (er .refuses s at l o h)
+
+  pub exact-check : Exact (checked n test r) (λ t v. T t v × (test v ≡ true))
+  exact-check = record { reads = λ t v h s at. rw (er .reads t v (h .0) s at, h .1); was = checked-was; refuses = checked-refuses }
+
+-- one of two rules
+pub exact-pick : {A : Type 0} {r q : Rule A} {T : List ℕ → A → Type 0} (b : Bool) → (b ≡ true → Exact r T) → (b ≡ false → Exact q T) → Exact (pick b r q) T
+exact-pick true er eq = er refl
+exact-pick false er eq = eq refl
+
+-- ---- a literal
+
+lit-reads : (bs s : List ℕ) (at : ℕ) → lit bs (bs ++ s) at ≡ ok tt s (at + length bs)
+unfolding lit
+lit-reads [] s at = rw add-zero
+lit-reads (b ∷ bs) s at =
+    let z : at + 1 + length bs ≡ at + suc (length bs) = omega arith in
+    rw (eq-eqb b b refl, lit-reads bs s (at + 1), z)
+
+lit-was : (bs s : List ℕ) (at : ℕ) (v : Unit {0}) (s′ : List ℕ) (at′ : ℕ) → lit bs s at ≡ ok v s′ at′ → s ≡ bs ++ s′
+unfolding lit
+lit-was [] s at v s′ at′ e = cc
+lit-was (b ∷ bs) [] at v s′ at′ e = absurd (not-fault v s′ at′ 1 at e)
+lit-was (b ∷ bs) (x ∷ s) at v s′ at′ e =
+    on-pick v s′ at′ (eqb x b) (lit bs s (at + 1)) 1 at e
+    (λ t h. let p : x ≡ b = eqb-true x b t in let q : s ≡ bs ++ s′ = lit-was bs s (at + 1) v s′ at′ h in cc)
+
+lit-refuses : (bs s : List ℕ) (at n p : ℕ) → lit bs s at ≡ fault n p → 0 < n
+unfolding lit
+lit-refuses [] s at n p e = absurd (not-ok tt s at n p e)
+lit-refuses (b ∷ bs) [] at n p e = same-number 1 at n p e (omega arith)
+lit-refuses (b ∷ bs) (x ∷ s) at n p e =
+    pick-refuses (eqb x b) _ _ n p e (λ t h. lit-refuses bs s (at + 1) n p h) (λ t h. same-number 1 at n p h (omega arith))
+
+pub exact-lit : (bs : List ℕ) → Exact (lit bs) (λ t v. t ≡ bs)
+exact-lit bs = record {
+  reads = λ t v h s at. rw (h, lit-reads bs s at);
+  was = λ s at v s′ at′ e. (bs, lit-was bs s at v s′ at′ e, refl);
+  refuses = lit-refuses bs;
+}
