@@ -1,4 +1,4 @@
--- A rule reads exactly the texts that T allows, each with its value, and refuses with a number. Stated once for any rule; kept by sequence and by a check.
+-- A rule reads exactly the texts of the values that are allowed, and refuses with a number. Stated once for any rule; kept by sequence and by a check.
 use Prim.Native.Nat.{ℕ, zero, suc, _+_, _≤_, _<_}
 use mathlib.Core.Path.{_≡_, refl, ap, sym, _∙_}
 use mathlib.Core.List.{List, [], _∷_, _++_, append-assoc}
@@ -42,87 +42,76 @@ not-ok v s at n p e = let z : _≡_ {A = ℕ} 0 1 = cc in omega arith
 
 -- ---- exact rules
 
-pub record Exact {A : Type 0} (r : Rule A) (T : List ℕ → A → Type 0) : Type 0 where
-  pub reads : (t : List ℕ) (v : A) → T t v → (s : List ℕ) (at : ℕ) → r (t ++ s) at ≡ ok v s (at + length t)
-  pub was : (s : List ℕ) (at : ℕ) (v : A) (s′ : List ℕ) (at′ : ℕ) → r s at ≡ ok v s′ at′ → (t : List ℕ) × (s ≡ t ++ s′) × T t v
+-- v's text is w v, and P v says which values have one
+pub record Exact {A : Type 0} (r : Rule A) (w : A → List ℕ) (P : A → Type 0) : Type 0 where
+  pub reads : (v : A) → P v → (s : List ℕ) (at : ℕ) → r (w v ++ s) at ≡ ok v s (at + length (w v))
+  pub was : (s : List ℕ) (at : ℕ) (v : A) (s′ : List ℕ) (at′ : ℕ) → r s at ≡ ok v s′ at′ → (s ≡ w v ++ s′) × P v
   pub refuses : (s : List ℕ) (at n p : ℕ) → r s at ≡ fault n p → 0 < n
 
--- one text after another
-pub record Then {A B : Type 0} (T : List ℕ → A → Type 0) (U : A → List ℕ → B → Type 0) (t : List ℕ) (b : B) : Type 0 where
-  pub a : A
-  pub one : List ℕ
-  pub two : List ℕ
-  pub both : t ≡ one ++ two
-  pub first : T one a
-  pub second : U a two b
+-- one rule after another, which may go by what the first one's value is known to be. The first value is read off the second.
+module _ {A B : Type 0} {r : Rule A} {w : A → List ℕ} {P : A → Type 0} {f : A → Rule B} {u : A → B → List ℕ} {Q : A → B → Type 0}
+    (er : Exact r w P) (ef : (a : A) → P a → Exact (f a) (u a) (Q a)) (back : B → A) (is : (a : A) (b : B) → Q a b → back b ≡ a) where
+  abbrev Text : B → List ℕ
+  Text b = w (back b) ++ u (back b) b
 
-module _ {A B : Type 0} {r : Rule A} {T : List ℕ → A → Type 0} {f : A → Rule B} {U : A → List ℕ → B → Type 0}
-    (er : Exact r T) (ef : (a : A) (t : List ℕ) → T t a → Exact (f a) (U a)) where
-  then-reads : (t : List ℕ) (b : B) → Then T U t b → (s : List ℕ) (at : ℕ) → _>>=_ r f (t ++ s) at ≡ ok b s (at + length t)
-  then-reads t b h s at =
+  abbrev Allowed : B → Type 0
+  Allowed b = P (back b) × Q (back b) b
+
+  then-reads : (b : B) → Allowed b → (s : List ℕ) (at : ℕ) → _>>=_ r f (Text b ++ s) at ≡ ok b s (at + length (Text b))
+  then-reads b h s at =
       rw (
-        h .both,
-        append-assoc (h .one) (h .two) s,
-        er .reads (h .one) (h .a) (h .first) (h .two ++ s) at,
-        ef (h .a) (h .one) (h .first) .reads (h .two) b (h .second) s (at + length (h .one)),
-        length-append (h .one) (h .two),
+        append-assoc (w (back b)) (u (back b) b) s,
+        er .reads (back b) (h .0) (u (back b) b ++ s) at,
+        ef (back b) (h .0) .reads b (h .1) s (at + length (w (back b))),
+        length-append (w (back b)) (u (back b) b),
         add-assoc,
       )
 
-  then-was : (s : List ℕ) (at : ℕ) (b : B) (s′ : List ℕ) (at′ : ℕ) → _>>=_ r f s at ≡ ok b s′ at′ → (t : List ℕ) × (s ≡ t ++ s′) × Then T U t b
+  then-was : (s : List ℕ) (at : ℕ) (b : B) (s′ : List ℕ) (at′ : ℕ) → _>>=_ r f s at ≡ ok b s′ at′ → (s ≡ Text b ++ s′) × Allowed b
   then-was s at b s′ at′ e =
       on-after b s′ at′ (r s at) f e
       (λ a s″ at″ g h.
-        let w = er .was s at a s″ at″ g in
-        let u = ef a (w .0) (w .2) .was s″ at″ b s′ at′ h in (
-          w .0 ++ u .0,
-          w .1 ∙ ap (λ (x : List ℕ). w .0 ++ x) (u .1) ∙ sym (append-assoc (w .0) (u .0) s′),
-          record { a = a; one = w .0; two = u .0; both = refl; first = w .2; second = u .2 },
-        ))
+        let x = er .was s at a s″ at″ g in
+        let y = ef a (x .1) .was s″ at″ b s′ at′ h in
+        rw (is a b (y .1)) (x .0 ∙ ap (λ (l : List ℕ). w a ++ l) (y .0) ∙ sym (append-assoc (w a) (u a b) s′), (x .1, y .1)))
 
   then-refuses : (s : List ℕ) (at n p : ℕ) → _>>=_ r f s at ≡ fault n p → 0 < n
   then-refuses s at n p = go (r s at) refl
     where
       go : (g : Got A) → r s at ≡ g → after g f ≡ fault n p → 0 < n
-      go (ok a s′ at′) h q = let w = er .was s at a s′ at′ h in ef a (w .0) (w .2) .refuses s′ at′ n p q
+      go (ok a s′ at′) h q = ef a (er .was s at a s′ at′ h .1) .refuses s′ at′ n p q
       go (fault m o) h q = same-number m o n p q (er .refuses s at m o h)
 
-  -- the second rule may go by what the first one's value is known to be
-  pub exact-on : Exact (_>>=_ r f) (Then T U)
-  exact-on = record { reads = then-reads; was = then-was; refuses = then-refuses }
+  pub exact-then : Exact (_>>=_ r f) Text Allowed
+  exact-then = record { reads = then-reads; was = then-was; refuses = then-refuses }
 
-pub exact-then : {A B : Type 0} {r : Rule A} {T : List ℕ → A → Type 0} {f : A → Rule B} {U : A → List ℕ → B → Type 0}
-    → Exact r T → ((a : A) → Exact (f a) (U a)) → Exact (_>>=_ r f) (Then T U)
-exact-then er ef = exact-on er (λ a t h. ef a)
-
-pub exact-give : {A : Type 0} (v : A) → Exact (give v) (λ t w. (t ≡ []) × (w ≡ v))
+pub exact-give : {A : Type 0} (v : A) → Exact (give v) (λ w. []) (λ w. w ≡ v)
 exact-give v = record {
-  reads = λ t w h s at. rw (h .0, h .1, add-zero);
-  was = λ s at w s′ at′ e. ([], cc, (refl, cc));
+  reads = λ w h s at. rw (h, add-zero);
+  was = λ s at w s′ at′ e. (cc, cc);
   refuses = λ s at n p e. absurd (not-ok v s at n p e);
 }
 
--- the same texts in other words
-pub exact-as : {A : Type 0} {r : Rule A} {T U : List ℕ → A → Type 0}
-    → Exact r T → ((t : List ℕ) (v : A) → T t v → U t v) → ((t : List ℕ) (v : A) → U t v → T t v) → Exact r U
-exact-as er f g = record {
-  reads = λ t v h s at. er .reads t v (g t v h) s at;
-  was = λ s at v s′ at′ e. let w = er .was s at v s′ at′ e in (w .0, w .1, f (w .0) v (w .2));
+-- the same in other words
+pub exact-as : {A : Type 0} {r : Rule A} {w u : A → List ℕ} {P Q : A → Type 0}
+    → Exact r w P → ((v : A) → P v → Q v) → ((v : A) → Q v → P v) → ((v : A) → Q v → w v ≡ u v) → Exact r u Q
+exact-as er f g e = record {
+  reads = λ v h s at. rw (← e v h) (er .reads v (g v h) s at);
+  was = λ s at v s′ at′ x. let y = er .was s at v s′ at′ x in let q = f v (y .1) in (rw (← e v q) (y .0), q);
   refuses = er .refuses;
 }
 
 -- a rule whose value is checked afterwards
-module _ {A : Type 0} {r : Rule A} {T : List ℕ → A → Type 0} (n : ℕ) (test : A → Bool) (z : 0 < n) (er : Exact r T) where
-  checked-was : (s : List ℕ) (at : ℕ) (v : A) (s′ : List ℕ) (at′ : ℕ) → checked n test r s at ≡ ok v s′ at′
-      → (t : List ℕ) × (s ≡ t ++ s′) × (T t v × (test v ≡ true))
+module _ {A : Type 0} {r : Rule A} {w : A → List ℕ} {P : A → Type 0} (n : ℕ) (test : A → Bool) (z : 0 < n) (er : Exact r w P) where
+  checked-was : (s : List ℕ) (at : ℕ) (v : A) (s′ : List ℕ) (at′ : ℕ) → checked n test r s at ≡ ok v s′ at′ → (s ≡ w v ++ s′) × (P v × (test v ≡ true))
   checked-was s at v s′ at′ e =
       on-after v s′ at′ (r s at) _ e
-      (λ w s″ at″ g h.
-        on-pick v s′ at′ (test w) (ok w s″ at″) n at h
+      (λ x s″ at″ g h.
+        on-pick v s′ at′ (test x) (ok x s″ at″) n at h
         (λ t k.
-          let u = er .was s at v s′ at′ (g ∙ k) in
-          let same : w ≡ v = cc in
-          (u .0, u .1, (u .2, rw same at t))))
+          let y = er .was s at v s′ at′ (g ∙ k) in
+          let same : x ≡ v = cc in
+          (y .0, (y .1, rw same at t))))
 
   checked-refuses : (s : List ℕ) (at m p : ℕ) → checked n test r s at ≡ fault m p → 0 < m
   checked-refuses s at m p = go (r s at) refl
@@ -131,13 +120,8 @@ module _ {A : Type 0} {r : Rule A} {T : List ℕ → A → Type 0} (n : ℕ) (te
       go (ok v s′ at′) h q = pick-refuses (test v) _ _ m p q (λ t k. absurd (not-ok v s′ at′ m p k)) (λ t k. same-number n at m p k z)
       go (fault l o) h q = same-number l o m p q (er .refuses s at l o h)
 
-  pub exact-check : Exact (checked n test r) (λ t v. T t v × (test v ≡ true))
-  exact-check = record { reads = λ t v h s at. rw (er .reads t v (h .0) s at, h .1); was = checked-was; refuses = checked-refuses }
-
--- one of two rules
-pub exact-pick : {A : Type 0} {r q : Rule A} {T : List ℕ → A → Type 0} (b : Bool) → (b ≡ true → Exact r T) → (b ≡ false → Exact q T) → Exact (pick b r q) T
-exact-pick true er eq = er refl
-exact-pick false er eq = eq refl
+  pub exact-check : Exact (checked n test r) w (λ v. P v × (test v ≡ true))
+  exact-check = record { reads = λ v h s at. rw (er .reads v (h .0) s at, h .1); was = checked-was; refuses = checked-refuses }
 
 -- ---- a literal
 
@@ -163,9 +147,9 @@ lit-refuses (b ∷ bs) [] at n p e = same-number 1 at n p e (omega arith)
 lit-refuses (b ∷ bs) (x ∷ s) at n p e =
     pick-refuses (eqb x b) _ _ n p e (λ t h. lit-refuses bs s (at + 1) n p h) (λ t h. same-number 1 at n p h (omega arith))
 
-pub exact-lit : (bs : List ℕ) → Exact (lit bs) (λ t v. t ≡ bs)
+pub exact-lit : (bs : List ℕ) → Exact (lit bs) (λ v. bs) (λ v. Unit {0})
 exact-lit bs = record {
-  reads = λ t v h s at. rw (h, lit-reads bs s at);
-  was = λ s at v s′ at′ e. (bs, lit-was bs s at v s′ at′ e, refl);
+  reads = λ v h s at. lit-reads bs s at;
+  was = λ s at v s′ at′ e. (lit-was bs s at v s′ at′ e, tt);
   refuses = lit-refuses bs;
 }
