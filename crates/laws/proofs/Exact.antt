@@ -50,7 +50,7 @@ pub record Exact {A : Type 0} (r : Rule A) (w : A → List ℕ) (P : A → Type 
 
 -- one rule after another, which may go by what the first one's value is known to be. The first value is read off the second.
 module _ {A B : Type 0} {r : Rule A} {w : A → List ℕ} {P : A → Type 0} {f : A → Rule B} {u : A → B → List ℕ} {Q : A → B → Type 0}
-    (er : Exact r w P) (ef : (a : A) → P a → Exact (f a) (u a) (Q a)) (back : B → A) (is : (a : A) (b : B) → Q a b → back b ≡ a) where
+    (er : Exact r w P) (ef : (a : A) → P a → Exact (f a) (u a) (Q a)) (back : B → A) (is : (a : A) (b : B) → P a → Q a b → back b ≡ a) where
   abbrev Text : B → List ℕ
   Text b = w (back b) ++ u (back b) b
 
@@ -73,7 +73,7 @@ module _ {A B : Type 0} {r : Rule A} {w : A → List ℕ} {P : A → Type 0} {f 
       (λ a s″ at″ g h.
         let x = er .was s at a s″ at″ g in
         let y = ef a (x .1) .was s″ at″ b s′ at′ h in
-        rw (is a b (y .1)) (x .0 ∙ ap (λ (l : List ℕ). w a ++ l) (y .0) ∙ sym (append-assoc (w a) (u a b) s′), (x .1, y .1)))
+        rw (is a b (x .1) (y .1)) (x .0 ∙ ap (λ (l : List ℕ). w a ++ l) (y .0) ∙ sym (append-assoc (w a) (u a b) s′), (x .1, y .1)))
 
   then-refuses : (s : List ℕ) (at n p : ℕ) → _>>=_ r f s at ≡ fault n p → 0 < n
   then-refuses s at n p = go (r s at) refl

@@ -1,3 +1,4 @@
 pub mod Exact
 pub mod Decimal
 pub mod Numbers
+pub mod Names
