@@ -2,3 +2,4 @@ pub mod Exact
 pub mod Decimal
 pub mod Numbers
 pub mod Names
+pub mod Whole
