@@ -28,17 +28,24 @@ module _ {A : Type 0} (v : A) (s : List ℕ) (at : ℕ) where
   on-after (ok b s′ at′) f e k = k b s′ at′ refl e
   on-after (fault n p) f e k = absurd (not-fault n p e)
 
--- a refusal has the number of one of two
-pub pick-refuses : {A : Type 0} (b : Bool) (g h : Got A) (n p : ℕ) → pick b g h ≡ fault n p
-    → (b ≡ true → g ≡ fault n p → 0 < n) → (b ≡ false → h ≡ fault n p → 0 < n) → 0 < n
-pick-refuses true g h n p e k l = k refl e
-pick-refuses false g h n p e k l = l refl e
+-- ---- what a refusal tells
 
 pub same-number : {A : Type 0} (m o n p : ℕ) → _≡_ {A = Got A} (fault m o) (fault n p) → 0 < m → 0 < n
 same-number m o n p e z = let q : m ≡ n = cc in omega arith
 
 pub not-ok : {A : Type 0} (v : A) (s : List ℕ) (at n p : ℕ) → ok v s at ≡ fault n p → ⊥
 not-ok v s at n p e = let z : _≡_ {A = ℕ} 0 1 = cc in omega arith
+
+-- one of two refused
+pub pick-refuses : {A : Type 0} (b : Bool) (g h : Got A) (n p : ℕ) → pick b g h ≡ fault n p → (g ≡ fault n p → 0 < n) → (h ≡ fault n p → 0 < n) → 0 < n
+pick-refuses true g h n p e k l = k e
+pick-refuses false g h n p e k l = l e
+
+-- the first rule refused, or the second
+pub after-refuses : {A B : Type 0} (g : Got A) (f : A → Rule B) (n p : ℕ) → after g f ≡ fault n p
+    → ((m o : ℕ) → g ≡ fault m o → 0 < m) → ((v : A) (s : List ℕ) (at : ℕ) → g ≡ ok v s at → f v s at ≡ fault n p → 0 < n) → 0 < n
+after-refuses (ok v s at) f n p e k l = l v s at refl e
+after-refuses (fault m o) f n p e k l = same-number m o n p e (k m o refl)
 
 -- ---- exact rules
 
@@ -76,11 +83,8 @@ module _ {A B : Type 0} {r : Rule A} {w : A → List ℕ} {P : A → Type 0} {f 
         rw (is a b (x .1) (y .1)) (x .0 ∙ ap (λ (l : List ℕ). w a ++ l) (y .0) ∙ sym (append-assoc (w a) (u a b) s′), (x .1, y .1)))
 
   then-refuses : (s : List ℕ) (at n p : ℕ) → _>>=_ r f s at ≡ fault n p → 0 < n
-  then-refuses s at n p = go (r s at) refl
-    where
-      go : (g : Got A) → r s at ≡ g → after g f ≡ fault n p → 0 < n
-      go (ok a s′ at′) h q = ef a (er .was s at a s′ at′ h .1) .refuses s′ at′ n p q
-      go (fault m o) h q = same-number m o n p q (er .refuses s at m o h)
+  then-refuses s at n p e =
+      after-refuses (r s at) f n p e (λ m o h. er .refuses s at m o h) (λ a s′ at′ h q. ef a (er .was s at a s′ at′ h .1) .refuses s′ at′ n p q)
 
   pub exact-then : Exact (_>>=_ r f) Text Allowed
   exact-then = record { reads = then-reads; was = then-was; refuses = then-refuses }
@@ -114,11 +118,9 @@ module _ {A : Type 0} {r : Rule A} {w : A → List ℕ} {P : A → Type 0} (n : 
           (y .0, (y .1, rw same at t))))
 
   checked-refuses : (s : List ℕ) (at m p : ℕ) → checked n test r s at ≡ fault m p → 0 < m
-  checked-refuses s at m p = go (r s at) refl
-    where
-      go : (g : Got A) → r s at ≡ g → after g (λ v s′ at′. pick (test v) (ok v s′ at′) (fault n at)) ≡ fault m p → 0 < m
-      go (ok v s′ at′) h q = pick-refuses (test v) _ _ m p q (λ t k. absurd (not-ok v s′ at′ m p k)) (λ t k. same-number n at m p k z)
-      go (fault l o) h q = same-number l o m p q (er .refuses s at l o h)
+  checked-refuses s at m p e =
+      after-refuses (r s at) _ m p e (λ l o h. er .refuses s at l o h)
+      (λ v s′ at′ h q. pick-refuses (test v) (ok v s′ at′) (fault n at) m p q (λ k. absurd (not-ok v s′ at′ m p k)) (λ k. same-number n at m p k z))
 
   pub exact-check : Exact (checked n test r) w (λ v. P v × (test v ≡ true))
   exact-check = record { reads = λ v h s at. rw (er .reads v (h .0) s at, h .1); was = checked-was; refuses = checked-refuses }
@@ -145,7 +147,7 @@ unfolding lit
 lit-refuses [] s at n p e = absurd (not-ok tt s at n p e)
 lit-refuses (b ∷ bs) [] at n p e = same-number 1 at n p e (omega arith)
 lit-refuses (b ∷ bs) (x ∷ s) at n p e =
-    pick-refuses (eqb x b) _ _ n p e (λ t h. lit-refuses bs s (at + 1) n p h) (λ t h. same-number 1 at n p h (omega arith))
+    pick-refuses (eqb x b) _ _ n p e (λ h. lit-refuses bs s (at + 1) n p h) (λ h. same-number 1 at n p h (omega arith))
 
 pub exact-lit : (bs : List ℕ) → Exact (lit bs) (λ v. bs) (λ v. Unit {0})
 exact-lit bs = record {

@@ -3,3 +3,4 @@ pub mod Decimal
 pub mod Numbers
 pub mod Names
 pub mod Whole
+pub mod Turns

@@ -78,10 +78,10 @@ letters-refuses : (k : ℕ) (w s : List ℕ) (at n p : ℕ) → letters k w s at
 unfolding letters
 letters-refuses k w [] at n p e = same-number 1 at n p e (omega arith)
 letters-refuses k w (x ∷ s) at n p e =
-    pick-refuses (eqb x feed) _ _ n p e (λ t q. absurd (not-ok w s (at + 1) n p q))
-    (λ t q.
-      pick-refuses (ltb 0 k && isLower x) _ _ n p q (λ u g. letters-refuses (k - 1) (w ++ x ∷ []) s (at + 1) n p g)
-      (λ u g. same-number 1 at n p g (omega arith)))
+    pick-refuses (eqb x feed) _ _ n p e (λ q. absurd (not-ok w s (at + 1) n p q))
+    (λ q.
+      pick-refuses (ltb 0 k && isLower x) _ _ n p q (λ g. letters-refuses (k - 1) (w ++ x ∷ []) s (at + 1) n p g)
+      (λ g. same-number 1 at n p g (omega arith)))
 
 word-reads : (w : List ℕ) → worded w ≡ true → (s : List ℕ) (at : ℕ) → word ((w ++ feed ∷ []) ++ s) at ≡ ok w s (at + length (w ++ feed ∷ []))
 unfolding word
@@ -111,7 +111,7 @@ word-refuses : (s : List ℕ) (at n p : ℕ) → word s at ≡ fault n p → 0 <
 unfolding word
 word-refuses [] at n p e = same-number 1 at n p e (omega arith)
 word-refuses (x ∷ s) at n p e =
-    pick-refuses (isLower x) _ _ n p e (λ t q. letters-refuses (mostLetters - 1) (x ∷ []) s (at + 1) n p q) (λ t q. same-number 1 at n p q (omega arith))
+    pick-refuses (isLower x) _ _ n p e (λ q. letters-refuses (mostLetters - 1) (x ∷ []) s (at + 1) n p q) (λ q. same-number 1 at n p q (omega arith))
 
 exact-word : Exact word (λ w. w ++ feed ∷ []) (λ w. worded w ≡ true)
 exact-word = record { reads = word-reads; was = word-was; refuses = word-refuses }

@@ -126,16 +126,16 @@ digits-refuses : (a b k n : ℕ) (s : List ℕ) (at m p : ℕ) → digits a b k 
 unfolding digits
 digits-refuses a b k n [] at m p e = same-number 1 at m p e (omega arith)
 digits-refuses a b k n (x ∷ s) at m p e =
-    pick-refuses (eqb x a || eqb x b) _ _ m p e (λ t q. absurd (not-ok (n, x) s (at + 1) m p q))
-    (λ t q.
-      pick-refuses (ltb 0 k && isDigit x) _ _ m p q (λ u g. digits-refuses a b (k - 1) (n * 10 + (x - 48)) s (at + 1) m p g)
-      (λ u g. same-number 1 at m p g (omega arith)))
+    pick-refuses (eqb x a || eqb x b) _ _ m p e (λ q. absurd (not-ok (n, x) s (at + 1) m p q))
+    (λ q.
+      pick-refuses (ltb 0 k && isDigit x) _ _ m p q (λ g. digits-refuses a b (k - 1) (n * 10 + (x - 48)) s (at + 1) m p g)
+      (λ g. same-number 1 at m p g (omega arith)))
 
 number-refuses : (a b : ℕ) (s : List ℕ) (at m p : ℕ) → number a b s at ≡ fault m p → 0 < m
 unfolding number
 number-refuses a b [] at m p e = same-number 1 at m p e (omega arith)
 number-refuses a b (x ∷ s) at m p e =
-    pick-refuses (isDigit x) _ _ m p e (λ t q. digits-refuses a b _ (x - 48) s (at + 1) m p q) (λ t q. same-number 1 at m p q (omega arith))
+    pick-refuses (isDigit x) _ _ m p e (λ q. digits-refuses a b _ (x - 48) s (at + 1) m p q) (λ q. same-number 1 at m p q (omega arith))
 
 -- ---- what is read
 
