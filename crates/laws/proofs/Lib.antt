@@ -4,3 +4,4 @@ pub mod Numbers
 pub mod Names
 pub mod Whole
 pub mod Turns
+pub mod RoundTrip
