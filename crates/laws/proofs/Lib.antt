@@ -5,3 +5,4 @@ pub mod Names
 pub mod Whole
 pub mod Turns
 pub mod RoundTrip
+pub mod Files

@@ -1,0 +1,97 @@
+-- The laws of files: round trips, the longest file, and how far read looks.
+use Prim.Native.Nat.{ℕ, zero, suc, _+_, _≤_, _<_}
+use mathlib.Core.Path.{_≡_, refl, ap, sym, _∙_, subst}
+use mathlib.Core.Bool.{Bool, true, false}
+use mathlib.Core.List.{List, [], _∷_, _++_}
+use lib.ListN.{length}
+use lib.Seq.{take-append-seam}
+use lib.Dec.{leb, eqb}
+use borrow.Author.Tests.{le-leb, eqb-true, eqb-false}
+use native.Mathlib.Omega.{arith}
+use Rattle.rules.specs.Bounds.{mostProcs}
+use Rattle.rules.specs.Settings.{Settings}
+use Rattle.rules.specs.Rule.{Got, ok, fault}
+use Rattle.rules.specs.File.{file, text}
+use Rattle.rules.specs.Calls.{over, Reading, readingOf, reading, writeRefusal, Writing, writing}
+use Rattle.rules.proofs.Store.{by-test}
+use Rattle.rules.proofs.Accepted.{Accepted, accepted, accepts}
+use Rattle.laws.specs.Laws.{settingsOf, turnsOf, fileOf}
+use Rattle.laws.proofs.RoundTrip.{written, Full, file-was, file-reads, file-refuses}
+
+-- ---- read
+
+-- the answer of an accepted file
+abbrev readAs : Settings × List ℕ → List ℕ → Reading
+readAs v schedule = record { answer = record { number = 0; place = 0; settings = v .0; count = length (v .1) }; schedule = over (v .1) schedule }
+
+record Read (bytes schedule : List ℕ) : Type 0 where
+  value : Settings × List ℕ
+  is : reading bytes schedule ≡ readAs value schedule
+  full : Full value
+  as-text : bytes ≡ written value
+
+was-read : (bytes schedule : List ℕ) → reading bytes schedule .answer .number ≡ 0 → Read bytes schedule
+unfolding readingOf
+was-read bytes schedule = go (file bytes 0) refl
+  where
+    go : (g : Got (Settings × List ℕ)) → file bytes 0 ≡ g → readingOf g schedule .answer .number ≡ 0 → Read bytes schedule
+    go (ok v s at) e =
+        by-test (λ (r : Reading). reading bytes schedule ≡ r → r .answer .number ≡ 0 → Read bytes schedule) (leb (length (v .1)) (length schedule)) _ _
+        (λ t q h. let w = file-was bytes v s at e in record { value = v; is = q; full = w .1; as-text = w .0 })
+        (λ t q h. absurd (omega arith))
+        (ap (λ (g : Got (Settings × List ℕ)). readingOf g schedule) e)
+    go (fault n p) e = λ h. absurd (omega (arith, file-refuses bytes n p e))
+
+-- what read accepted: an accepted call, and the text of it
+pub read-accepts : (bytes schedule : List ℕ)
+    → (let r : Reading = reading bytes schedule in
+    r .answer .number ≡ 0 → Accepted (settingsOf r) (turnsOf r) × (bytes ≡ text (settingsOf r) (turnsOf r)))
+read-accepts bytes schedule h = go (was-read bytes schedule h)
+  where
+    go : Read bytes schedule → Accepted (settingsOf (reading bytes schedule)) (turnsOf (reading bytes schedule))
+        × (bytes ≡ text (settingsOf (reading bytes schedule)) (turnsOf (reading bytes schedule)))
+    go x =
+        subst (λ (r : Reading). Accepted (settingsOf r) (turnsOf r) × (bytes ≡ text (settingsOf r) (turnsOf r))) (sym (x .is))
+        (subst (λ (t : List ℕ). Accepted (x .value .0) t × (bytes ≡ text (x .value .0) t)) (sym (take-append-seam (x .value .1) _)) (x .full .accepted, x .as-text))
+
+-- ---- write
+
+abbrev writtenAs : List ℕ → List ℕ → Writing
+writtenAs bytes out = record { answer = record { number = 0; count = length bytes }; out = over bytes out }
+
+writes : (s : Settings) (t out : List ℕ) → Accepted s t → length (text s t) ≤ length out → writing s t out ≡ writtenAs (text s t) out
+unfolding writing
+writes s t out a h = rw (accepts s t _ a (le-leb (length (text s t)) (length out) h))
+
+was-written : (s : Settings) (t out : List ℕ) → writing s t out .answer .number ≡ 0 → Accepted s t × (writing s t out ≡ writtenAs (text s t) out)
+unfolding writing
+was-written s t out =
+    by-test (λ (w : Writing). w .answer .number ≡ 0 → Accepted s t × (w ≡ writtenAs (text s t) out)) (eqb (writeRefusal s t (length out)) 0) _ _
+    (λ e h. (accepted s t _ (eqb-true _ 0 e) .0, refl))
+    (λ e h. absurd (eqb-false _ 0 e h))
+
+-- ---- the round trips
+
+pub read-write : (bytes schedule out : List ℕ)
+    → (let r : Reading = reading bytes schedule in
+    r .answer .number ≡ 0 → length bytes ≤ length out
+    → writing (settingsOf r) (turnsOf r) out ≡ record { answer = record { number = 0; count = length bytes }; out = over bytes out })
+read-write bytes schedule out h l =
+    let r = reading bytes schedule in
+    let a = read-accepts bytes schedule h in
+    let room : length (text (settingsOf r) (turnsOf r)) ≤ length out = subst (λ (b : List ℕ). length b ≤ length out) (a .1) l in
+    subst (λ (b : List ℕ). writing (settingsOf r) (turnsOf r) out ≡ writtenAs b out) (sym (a .1)) (writes (settingsOf r) (turnsOf r) out (a .0) room)
+
+read-text : (v : Settings × List ℕ) (schedule : List ℕ) → Full v → length (v .1) ≤ length schedule → reading (written v) schedule ≡ readAs v schedule
+unfolding readingOf
+read-text v schedule f h = rw (file-reads v f, le-leb (length (v .1)) (length schedule) h)
+
+pub write-read : (s : Settings) (t out schedule : List ℕ)
+    → length (s .rounds) ≡ mostProcs → length (s .hold) ≡ mostProcs
+    → (let w : Writing = writing s t out in
+    w .answer .number ≡ 0 → length t ≤ length schedule
+    → reading (fileOf w) schedule ≡ record { answer = record { number = 0; place = 0; settings = s; count = length t }; schedule = over t schedule })
+write-read s t out schedule rs hs h l =
+    let a = was-written s t out h in
+    let back : fileOf (writing s t out) ≡ text s t = ap fileOf (a .1) ∙ take-append-seam (text s t) _ in
+    ap (λ (b : List ℕ). reading b schedule) back ∙ read-text (s, t) schedule (record { accepted = a .0; rounds-long = rs; hold-long = hs }) l
