@@ -6,3 +6,4 @@ pub mod Whole
 pub mod Turns
 pub mod RoundTrip
 pub mod Files
+pub mod Near
