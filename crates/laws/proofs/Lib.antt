@@ -7,3 +7,4 @@ pub mod Turns
 pub mod RoundTrip
 pub mod Files
 pub mod Near
+pub mod Longest

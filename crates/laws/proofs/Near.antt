@@ -151,21 +151,25 @@ near-name =
     near-exact exact-name (λ m k. simp length-append (omega (arith, name-length m k)))
     (cuts-as (omega arith) (cuts-map (λ w. named w .number) (cuts-check 2 (λ w. known (named w)) cuts-word)))
 
--- the digits of the greatest number of a range
+-- how many digits the greatest number of a range has
 unfoldable pub width : ℕ → ℕ
 width n = length (decimalIn mostDigits n)
 
-width-most : (n hi : ℕ) → n ≤ hi → hi < 10 ^ mostDigits → length (decimal n) ≤ width hi
+pub width-is : (n : ℕ) → n < 10 ^ mostDigits → length (decimal n) ≡ width n
 unfolding width
-width-most n hi h l = rw (← decimal-in mostDigits hi (omega arith)) (decimal-wider n hi h)
+width-is n h = ap length (decimal-in mostDigits n (omega arith))
 
-pub near-ranged : (x lo hi : ℕ) → isDigit x ≡ false → hi < 10 ^ mostDigits → Near (width hi + 1) (ranged x lo hi)
-near-ranged x lo hi nx h =
-    near-exact (exact-ranged x lo hi nx h) (λ n p. simp length-append (omega (arith, width-most n hi (p .1) h)))
+width-most : (n most : ℕ) → n ≤ most → most < 10 ^ mostDigits → length (decimal n) ≤ width most
+width-most n most h l = omega (arith, decimal-wider n most h, width-is most l)
+
+-- a range that ends at most or before it
+pub near-ranged : (x lo hi most : ℕ) → isDigit x ≡ false → hi ≤ most → most < 10 ^ mostDigits → Near (width most + 1) (ranged x lo hi)
+near-ranged x lo hi most nx h l =
+    near-exact (exact-ranged x lo hi nx (omega arith)) (λ n p. simp length-append (omega (arith, width-most n most (omega (arith, p .1)) l)))
     (cuts-as (omega arith) (cuts-map (λ v. v .0) (cuts-check 3 (λ v. leb lo (v .0) && leb (v .0) hi) (cuts-number x x))))
 
-pub near-field : (l : List ℕ) (lo hi : ℕ) → hi < 10 ^ mostDigits → Near (length l + (width hi + 1)) (field l lo hi)
-near-field l lo hi h = near-then (exact-lit l) (near-lit l) (λ u p. near-ranged feed lo hi refl h)
+pub near-field : (l : List ℕ) (lo hi most : ℕ) → hi ≤ most → most < 10 ^ mostDigits → Near (length l + (width most + 1)) (field l lo hi)
+near-field l lo hi most h m = near-then (exact-lit l) (near-lit l) (λ u p. near-ranged feed lo hi most refl h m)
 
 -- what a processor's line has after its label
 abbrev pub entriesMost : ℕ
@@ -175,8 +179,8 @@ near-entries : (i : ℕ) → Near (length (label i) + entriesMost) (entries i)
 near-entries i =
     near-as (omega arith)
     (near-then (exact-lit (label i)) (near-lit (label i))
-    (λ u p. near-then (exact-ranged comma 0 mostRounds refl (omega arith)) (near-ranged comma 0 mostRounds refl (omega arith))
-    (λ r p. near-then (exact-ranged feed 0 mostHold refl (omega arith)) (near-ranged feed 0 mostHold refl (omega arith)) (λ h p. near-give (r, h)))))
+    (λ u p. near-then (exact-ranged comma 0 mostRounds refl (omega arith)) (near-ranged comma 0 mostRounds mostRounds refl (omega arith) (omega arith))
+    (λ r p. near-then (exact-ranged feed 0 mostHold refl (omega arith)) (near-ranged feed 0 mostHold mostHold refl (omega arith) (omega arith)) (λ h p. near-give (r, h)))))
 
 -- the lines of k processors from i on, where each has n bytes after its label
 unfoldable pub rowsMost : ℕ → ℕ → ℕ → ℕ
