@@ -78,9 +78,9 @@ module _ {A B : Type 0} {r : Rule A} {w : A → List ℕ} {P : A → Type 0} {f 
   then-was s at b s′ at′ e =
       on-after b s′ at′ (r s at) f e
       (λ a s″ at″ g h.
-        let x = er .was s at a s″ at″ g in
-        let y = ef a (x .1) .was s″ at″ b s′ at′ h in
-        rw (is a b (x .1) (y .1)) (x .0 ∙ ap (λ (l : List ℕ). w a ++ l) (y .0) ∙ sym (append-assoc (w a) (u a b) s′), (x .1, y .1)))
+      let x = er .was s at a s″ at″ g in
+      let y = ef a (x .1) .was s″ at″ b s′ at′ h in
+      rw (is a b (x .1) (y .1)) (x .0 ∙ ap (λ (l : List ℕ). w a ++ l) (y .0) ∙ sym (append-assoc (w a) (u a b) s′), (x .1, y .1)))
 
   then-refuses : (s : List ℕ) (at n p : ℕ) → _>>=_ r f s at ≡ fault n p → 0 < n
   then-refuses s at n p e =
@@ -111,11 +111,11 @@ module _ {A : Type 0} {r : Rule A} {w : A → List ℕ} {P : A → Type 0} (n : 
   checked-was s at v s′ at′ e =
       on-after v s′ at′ (r s at) _ e
       (λ x s″ at″ g h.
-        on-pick v s′ at′ (test x) (ok x s″ at″) n at h
-        (λ t k.
-          let y = er .was s at v s′ at′ (g ∙ k) in
-          let same : x ≡ v = cc in
-          (y .0, (y .1, rw same at t))))
+      on-pick v s′ at′ (test x) (ok x s″ at″) n at h
+      (λ t k.
+      let y = er .was s at v s′ at′ (g ∙ k) in
+      let same : x ≡ v = cc in
+      (y .0, (y .1, rw same at t))))
 
   checked-refuses : (s : List ℕ) (at m p : ℕ) → checked n test r s at ≡ fault m p → 0 < m
   checked-refuses s at m p e =

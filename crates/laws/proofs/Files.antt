@@ -3,20 +3,22 @@ use Prim.Native.Nat.{ℕ, zero, suc, _+_, _≤_, _<_}
 use mathlib.Core.Path.{_≡_, refl, ap, sym, _∙_, subst}
 use mathlib.Core.Bool.{Bool, true, false}
 use mathlib.Core.List.{List, [], _∷_, _++_}
-use lib.ListN.{length}
+use lib.ListN.{length, length-append, replicate, length-replicate}
 use lib.Seq.{take-append-seam}
 use lib.Dec.{leb, eqb}
 use borrow.Author.Tests.{le-leb, eqb-true, eqb-false}
 use native.Mathlib.Omega.{arith}
-use Rattle.rules.specs.Bounds.{mostProcs}
+use Rattle.rules.specs.Bounds.{mostProcs, mostTurns, longestFile}
 use Rattle.rules.specs.Settings.{Settings}
-use Rattle.rules.specs.Rule.{Got, ok, fault}
-use Rattle.rules.specs.File.{file, text}
+use Rattle.rules.specs.Rule.{Got, ok, fault, after}
+use Rattle.rules.specs.File.{whole, file, text}
 use Rattle.rules.specs.Calls.{over, Reading, readingOf, reading, writeRefusal, Writing, writing}
 use Rattle.rules.proofs.Store.{by-test}
 use Rattle.rules.proofs.Accepted.{Accepted, accepted, accepts}
-use Rattle.laws.specs.Laws.{settingsOf, turnsOf, fileOf}
-use Rattle.laws.proofs.RoundTrip.{written, Full, file-was, file-reads, file-refuses}
+use Rattle.laws.specs.Laws.{settingsOf, turnsOf, fileOf, farthest}
+use Rattle.laws.proofs.RoundTrip.{body, written, Full, exact-body, ending, file-was, file-reads, file-refuses}
+use Rattle.laws.proofs.Near.{extend}
+use Rattle.laws.proofs.Longest.{near-body, fullest, lastTurns, fullest-full, fullest-length}
 
 -- ---- read
 
@@ -95,3 +97,37 @@ write-read s t out schedule rs hs h l =
     let a = was-written s t out h in
     let back : fileOf (writing s t out) ≡ text s t = ap fileOf (a .1) ∙ take-append-seam (text s t) _ in
     ap (λ (b : List ℕ). reading b schedule) back ∙ read-text (s, t) schedule (record { accepted = a .0; rounds-long = rs; hold-long = hs }) l
+
+-- ---- the longest file
+
+text-most : (v : Settings × List ℕ) → Full v → length (written v) ≤ longestFile
+text-most v f =
+    let h = near-body .spends (written v ++ []) 0 v [] _ (exact-body .reads v f [] 0) in
+    omega (arith, length-append (written v) [])
+
+pub longest : (bytes schedule : List ℕ) → reading bytes schedule .answer .number ≡ 0 → length bytes ≤ longestFile
+longest bytes schedule h = let x = was-read bytes schedule h in omega (arith, ap length (x .as-text), text-most (x .value) (x .full))
+
+pub longest-reached : (bytes : List ℕ) × (length bytes ≡ longestFile) × (reading bytes (replicate mostTurns 0) .answer .number ≡ 0)
+longest-reached = (
+  written (fullest, lastTurns),
+  fullest-length,
+  ap (λ (r : Reading). r .answer .number) (read-text (fullest, lastTurns) (replicate mostTurns 0) fullest-full (omega (arith, fullest-full .accepted .few, length-replicate {A = ℕ} mostTurns 0))),
+)
+
+-- ---- how far read looks
+
+file-cut : (bytes more : List ℕ) → farthest ≤ length bytes → file (bytes ++ more) 0 ≡ file bytes 0
+unfolding file whole
+file-cut bytes more h = rw (near-body .cuts .same bytes more 0 (omega arith)) (go (body bytes 0) refl)
+  where
+    go : (g : Got (Settings × List ℕ)) → body bytes 0 ≡ g → after (extend more g) ending ≡ after g ending
+    go (ok v [] at) e = absurd (omega (arith, near-body .spends bytes 0 v [] at e))
+    go (ok v (x ∷ left) at) e = refl
+    go (fault n p) e = refl
+
+pub cut : (bytes more schedule : List ℕ) → farthest ≤ length bytes → reading (bytes ++ more) schedule ≡ reading bytes schedule
+cut bytes more schedule h = ap (λ (g : Got (Settings × List ℕ)). readingOf g schedule) (file-cut bytes more h)
+
+pub farthest-below : farthest < 65536
+farthest-below = omega arith

@@ -5,6 +5,6 @@ pub mod Names
 pub mod Whole
 pub mod Turns
 pub mod RoundTrip
-pub mod Files
 pub mod Near
 pub mod Longest
+pub mod Files

@@ -55,23 +55,23 @@ letters-was k w [] at v s′ at′ e = absurd (not-fault v s′ at′ 1 at e)
 letters-was k w (x ∷ s) at v s′ at′ e =
     by-test (λ (g : Got (List ℕ)). g ≡ ok v s′ at′ → Letters k w (x ∷ s) v s′) (eqb x feed) _ _
     (λ t q.
-      let xf : x ≡ feed = eqb-true x feed t in
-      let ww : w ≡ v = cc in
-      let ss : s ≡ s′ = cc in
-      record { more = []; whole = sym ww ∙ sym (append-nil w); cut = rw (xf, ss); low = refl; few = omega arith })
+    let xf : x ≡ feed = eqb-true x feed t in
+    let ww : w ≡ v = cc in
+    let ss : s ≡ s′ = cc in
+    record { more = []; whole = sym ww ∙ sym (append-nil w); cut = rw (xf, ss); low = refl; few = omega arith })
     (λ f q.
-      on-pick v s′ at′ (ltb 0 k && isLower x) _ 1 at q
-      (λ t g.
-        let b = both (ltb 0 k) (isLower x) t in
-        let z : 0 < k = ltb-true 0 k (b .0) in
-        let r = letters-was (k - 1) (w ++ x ∷ []) s (at + 1) v s′ at′ g in
-        record {
-          more = x ∷ r .more;
-          whole = r .whole ∙ append-assoc w (x ∷ []) (r .more);
-          cut = ap (λ (l : List ℕ). x ∷ l) (r .cut);
-          low = rw (b .1) (r .low);
-          few = omega (arith, r .few);
-        }))
+    on-pick v s′ at′ (ltb 0 k && isLower x) _ 1 at q
+    (λ t g.
+    let b = both (ltb 0 k) (isLower x) t in
+    let z : 0 < k = ltb-true 0 k (b .0) in
+    let r = letters-was (k - 1) (w ++ x ∷ []) s (at + 1) v s′ at′ g in
+    record {
+      more = x ∷ r .more;
+      whole = r .whole ∙ append-assoc w (x ∷ []) (r .more);
+      cut = ap (λ (l : List ℕ). x ∷ l) (r .cut);
+      low = rw (b .1) (r .low);
+      few = omega (arith, r .few);
+    }))
     e
 
 letters-refuses : (k : ℕ) (w s : List ℕ) (at n p : ℕ) → letters k w s at ≡ fault n p → 0 < n
@@ -80,8 +80,8 @@ letters-refuses k w [] at n p e = same-number 1 at n p e (omega arith)
 letters-refuses k w (x ∷ s) at n p e =
     pick-refuses (eqb x feed) _ _ n p e (λ q. absurd (not-ok w s (at + 1) n p q))
     (λ q.
-      pick-refuses (ltb 0 k && isLower x) _ _ n p q (λ g. letters-refuses (k - 1) (w ++ x ∷ []) s (at + 1) n p g)
-      (λ g. same-number 1 at n p g (omega arith)))
+    pick-refuses (ltb 0 k && isLower x) _ _ n p q (λ g. letters-refuses (k - 1) (w ++ x ∷ []) s (at + 1) n p g)
+    (λ g. same-number 1 at n p g (omega arith)))
 
 word-reads : (w : List ℕ) → worded w ≡ true → (s : List ℕ) (at : ℕ) → word ((w ++ feed ∷ []) ++ s) at ≡ ok w s (at + length (w ++ feed ∷ []))
 unfolding word

@@ -51,8 +51,8 @@ module _ {A B : Type 0} {r : Rule A} {w : A → List ℕ} {P : A → Type 0} {f 
   pub near-then : Near (c + d) (_>>=_ r f)
   near-then = record {
     spends = λ left at b left″ at″ e.
-      on-after b left″ at″ (r left at) f e
-      (λ a left′ at′ g h. omega (arith, nr .spends left at a left′ at′ g, nf a (er .was left at a left′ at′ g .1) .spends left′ at′ b left″ at″ h));
+        on-after b left″ at″ (r left at) f e
+        (λ a left′ at′ g h. omega (arith, nr .spends left at a left′ at′ g, nf a (er .was left at a left′ at′ g .1) .spends left′ at′ b left″ at″ h));
     cuts = record { same = then-cuts };
   }
 
@@ -213,8 +213,8 @@ near-items : (k procs : ℕ) (ts : List ℕ) → procs ≤ mostProcs → Near (k
 unfolding items
 near-items zero procs ts h = record {
   spends = λ left at us left′ at′ e.
-    on-after us left′ at′ (checked 5 (λ v. false) (number comma feed) left at) _ e
-    (λ v s at″ f g. absurd (false-true (exact-item 5 (λ v. false) (omega arith) .was left at v s at″ f .1 .1)));
+      on-after us left′ at′ (checked 5 (λ v. false) (number comma feed) left at) _ e
+      (λ v s at″ f g. absurd (false-true (exact-item 5 (λ v. false) (omega arith) .was left at v s at″ f .1 .1)));
   cuts = cuts-as (omega arith) (cuts-map (λ v. ts) (cuts-check 5 (λ v. false) (cuts-number comma feed)));
 }
 near-items (suc k) procs ts h =

@@ -92,31 +92,31 @@ module _ (a b : ℕ) (v : ℕ × ℕ) (s′ : List ℕ) (at′ : ℕ) where
       by-test (λ (g : Got (ℕ × ℕ)). g ≡ ok v s′ at′ → Rest n (x ∷ s)) (eqb x a || eqb x b) _ _
       (λ t q. ended n x s at (omega (arith, pow-le-pow-right {n = 10} (omega arith) {i = j} {j = mostDigits} (omega arith))) (is-sep x a b t) q)
       (λ f q.
-        on-pick v s′ at′ (ltb 0 k && isDigit x) _ 1 at q
-        (λ t g.
-          let w = both (ltb 0 k) (isDigit x) t in
-          let zk : 0 < k = ltb-true 0 k (w .0) in
-          let zn : 0 < n = z zk in
-          let d = is-digit x (w .1) in
-          let lo : 48 ≤ x = d .0 in
-          let hi : x ≤ 57 = d .1 in
-          longer n (x - 48) x s zn (omega arith) (omega arith)
-          (digits-was (k - 1) (suc j) (n * 10 + (x - 48)) s (at + 1) (λ y. omega arith) (omega arith) (omega arith) g)))
+      on-pick v s′ at′ (ltb 0 k && isDigit x) _ 1 at q
+      (λ t g.
+      let w = both (ltb 0 k) (isDigit x) t in
+      let zk : 0 < k = ltb-true 0 k (w .0) in
+      let zn : 0 < n = z zk in
+      let d = is-digit x (w .1) in
+      let lo : 48 ≤ x = d .0 in
+      let hi : x ≤ 57 = d .1 in
+      longer n (x - 48) x s zn (omega arith) (omega arith)
+      (digits-was (k - 1) (suc j) (n * 10 + (x - 48)) s (at + 1) (λ y. omega arith) (omega arith) (omega arith) g)))
       e
 
   number-was : (s : List ℕ) (at : ℕ) → number a b s at ≡ ok v s′ at′ → (s ≡ numberText v ++ s′) × Number a b v
   unfolding number
   number-was [] at e = absurd (not-fault v s′ at′ 1 at e)
   number-was (x ∷ s) at e = on-pick v s′ at′ (isDigit x) _ 1 at e (λ t q.
-    let d = is-digit x t in
-    let lo : 48 ≤ x = d .0 in
-    let hi : x ≤ 57 = d .1 in
-    let xx : 48 + (x - 48) ≡ x = omega arith in
-    let room : pick (eqb x 48) 0 (mostDigits - 1) + 1 ≤ mostDigits = by-test (λ (k : ℕ). k + 1 ≤ mostDigits) (eqb x 48) _ _ (λ f. omega arith) (λ f. omega arith) in
-    let some : 0 < pick (eqb x 48) 0 (mostDigits - 1) → 0 < x - 48 =
+      let d = is-digit x t in
+      let lo : 48 ≤ x = d .0 in
+      let hi : x ≤ 57 = d .1 in
+      let xx : 48 + (x - 48) ≡ x = omega arith in
+      let room : pick (eqb x 48) 0 (mostDigits - 1) + 1 ≤ mostDigits = by-test (λ (k : ℕ). k + 1 ≤ mostDigits) (eqb x 48) _ _ (λ f. omega arith) (λ f. omega arith) in
+      let some : 0 < pick (eqb x 48) 0 (mostDigits - 1) → 0 < x - 48 =
       by-test (λ (k : ℕ). 0 < k → 0 < x - 48) (eqb x 48) _ _ (λ f k. absurd (omega arith)) (λ f k. omega (arith, eqb-false x 48 f)) in
-    let r = digits-was _ 1 (x - 48) s (at + 1) some (omega arith) (omega arith) q in
-    (together x (x - 48) s xx (omega arith) r, (r .most, r .sep)))
+      let r = digits-was _ 1 (x - 48) s (at + 1) some (omega arith) (omega arith) q in
+      (together x (x - 48) s xx (omega arith) r, (r .most, r .sep)))
     where
       together : (x n : ℕ) (s : List ℕ) → 48 + n ≡ x → n < 10 → Rest n s → x ∷ s ≡ numberText v ++ s′
       together x n s e h r = rw (append-assoc, r .whole, decimal-one n h, e) (ap (λ (l : List ℕ). x ∷ l) (r .cut))
@@ -128,8 +128,8 @@ digits-refuses a b k n [] at m p e = same-number 1 at m p e (omega arith)
 digits-refuses a b k n (x ∷ s) at m p e =
     pick-refuses (eqb x a || eqb x b) _ _ m p e (λ q. absurd (not-ok (n, x) s (at + 1) m p q))
     (λ q.
-      pick-refuses (ltb 0 k && isDigit x) _ _ m p q (λ g. digits-refuses a b (k - 1) (n * 10 + (x - 48)) s (at + 1) m p g)
-      (λ g. same-number 1 at m p g (omega arith)))
+    pick-refuses (ltb 0 k && isDigit x) _ _ m p q (λ g. digits-refuses a b (k - 1) (n * 10 + (x - 48)) s (at + 1) m p g)
+    (λ g. same-number 1 at m p g (omega arith)))
 
 number-refuses : (a b : ℕ) (s : List ℕ) (at m p : ℕ) → number a b s at ≡ fault m p → 0 < m
 unfolding number

@@ -70,15 +70,15 @@ exact-front =
     (λ f. f .algo) (λ a f p q. ap (λ (g : Front). g .algo) (q .1 .1 .1 .1)))
     (λ f. tt) (λ a f p q. refl))
     (λ f p.
-      let q = p .1 .1 in
-      record {
-        algo = p .1 .0;
-        procs-low = q .0 .0;
-        procs-high = q .0 .1;
-        home = omega (arith, q .0 .0, q .1 .0 .1);
-        ticket = q .1 .1 .0 .1;
-        budget = q .1 .1 .1 .0 .1;
-      })
+    let q = p .1 .1 in
+    record {
+      algo = p .1 .0;
+      procs-low = q .0 .0;
+      procs-high = q .0 .1;
+      home = omega (arith, q .0 .0, q .1 .0 .1);
+      ticket = q .1 .1 .0 .1;
+      budget = q .1 .1 .1 .0 .1;
+    })
     (λ f o. (tt, (o .algo, ((o .procs-low, o .procs-high), ((omega arith, omega (arith, o .home)), ((omega arith, o .ticket), ((omega arith, o .budget), refl)))))))
     (λ f o. simp append-nil)
 
@@ -113,38 +113,38 @@ exact-body =
     (λ v. (v .0 .rounds, v .0 .hold)) (λ a v p q. ap (λ (w : Settings × List ℕ). (w .0 .rounds, w .0 .hold)) (q .1 .1)))
     (λ v. opening (v .0)) (λ a v p q. ap (λ (w : Settings × List ℕ). opening (w .0)) (q .1 .1 .1)))
     (λ v p.
-      let o = p .0 in
-      let q = p .1 in
-      record {
-        accepted = record {
-          algo = o .algo;
-          procs-low = o .procs-low;
-          procs-high = o .procs-high;
-          home = o .home;
-          ticket = o .ticket;
-          budget = o .budget;
-          rounds = agree-row _ _ _ (q .0 .of-rounds);
-          hold = agree-row _ _ _ (q .0 .of-hold);
-          few = q .1 .1 .0 .1;
-          turns-below = q .1 .1 .0 .0;
-        };
-        rounds-long = q .0 .of-rounds .long;
-        hold-long = q .0 .of-hold .long;
-      })
+    let o = p .0 in
+    let q = p .1 in
+    record {
+      accepted = record {
+        algo = o .algo;
+        procs-low = o .procs-low;
+        procs-high = o .procs-high;
+        home = o .home;
+        ticket = o .ticket;
+        budget = o .budget;
+        rounds = agree-row _ _ _ (q .0 .of-rounds);
+        hold = agree-row _ _ _ (q .0 .of-hold);
+        few = q .1 .1 .0 .1;
+        turns-below = q .1 .1 .0 .0;
+      };
+      rounds-long = q .0 .of-rounds .long;
+      hold-long = q .0 .of-hold .long;
+    })
     (λ v w.
-      let a = w .accepted in
+    let a = w .accepted in (
+      record { algo = a .algo; procs-low = a .procs-low; procs-high = a .procs-high; home = a .home; ticket = a .ticket; budget = a .budget },
       (
-        record { algo = a .algo; procs-low = a .procs-low; procs-high = a .procs-high; home = a .home; ticket = a .ticket; budget = a .budget },
-        (
-          record { of-rounds = row-agree _ _ _ (w .rounds-long) (a .rounds); of-hold = row-agree _ _ _ (w .hold-long) (a .hold) },
-          (tt, ((a .turns-below, a .few), refl)),
-        ),
-      ))
+        record { of-rounds = row-agree _ _ _ (w .rounds-long) (a .rounds); of-hold = row-agree _ _ _ (w .hold-long) (a .hold) },
+        (tt, ((a .turns-below, a .few), refl)),
+      ),
+    ))
     (λ v w. simp (append-assoc, append-nil))
 
 -- ---- the file
 
-abbrev ending : {A : Type 0} → A → Rule A
+-- nothing more, and then v
+abbrev pub ending : {A : Type 0} → A → Rule A
 ending v = _>>_ end (give v)
 
 ends : {A : Type 0} (v w : A) (s : List ℕ) (at : ℕ) (s′ : List ℕ) (at′ : ℕ) → ending v s at ≡ ok w s′ at′ → (s ≡ []) × (v ≡ w)
@@ -161,10 +161,10 @@ unfolding file whole
 file-was bytes v s′ at′ e =
     on-after v s′ at′ (body bytes 0) ending e
     (λ w s″ at″ f g.
-      let z = ends w v s″ at″ s′ at′ g in
-      let x = exact-body .was bytes 0 w s″ at″ f in
-      subst (λ (y : Settings × List ℕ). (bytes ≡ written y) × Full y) (z .1)
-      (x .0 ∙ ap (λ (l : List ℕ). written w ++ l) (z .0) ∙ append-nil (written w), x .1))
+    let z = ends w v s″ at″ s′ at′ g in
+    let x = exact-body .was bytes 0 w s″ at″ f in
+    subst (λ (y : Settings × List ℕ). (bytes ≡ written y) × Full y) (z .1)
+    (x .0 ∙ ap (λ (l : List ℕ). written w ++ l) (z .0) ∙ append-nil (written w), x .1))
 
 -- and the text is read
 pub file-reads : (v : Settings × List ℕ) → Full v → file (written v) 0 ≡ ok v [] (length (written v))

@@ -88,13 +88,13 @@ items-was zero procs ts s at us s′ at′ e =
 items-was (suc k) procs ts s at us s′ at′ e =
     on-after us s′ at′ (checked 4 (turn procs) (number comma feed) s at) _ e
     (λ v s″ at″ f g.
-      let x = exact-turn procs .was s at v s″ at″ f in
-      let l = ltb-true (v .0) procs (x .1 .1) in
-      by-test (λ (r : Rule (List ℕ)). r s″ at″ ≡ ok us s′ at′ → Items (suc k) procs ts us s s′) (eqb (v .1) feed) _ _
-      (λ t q. item-last k procs ts us s s″ s′ v (x .0) l (eqb-true _ _ t) (cc) (cc))
-      (λ t q.
-        item-more k procs ts us s s″ s′ v (x .0) l (sep-comma (v .1) (x .1 .0 .1) (eqb-false _ _ t)) (items-was k procs (ts ++ v .0 ∷ []) s″ at″ us s′ at′ q))
-      g)
+    let x = exact-turn procs .was s at v s″ at″ f in
+    let l = ltb-true (v .0) procs (x .1 .1) in
+    by-test (λ (r : Rule (List ℕ)). r s″ at″ ≡ ok us s′ at′ → Items (suc k) procs ts us s s′) (eqb (v .1) feed) _ _
+    (λ t q. item-last k procs ts us s s″ s′ v (x .0) l (eqb-true _ _ t) (cc) (cc))
+    (λ t q.
+    item-more k procs ts us s s″ s′ v (x .0) l (sep-comma (v .1) (x .1 .0 .1) (eqb-false _ _ t)) (items-was k procs (ts ++ v .0 ∷ []) s″ at″ us s′ at′ q))
+    g)
 
 items-refuses : (k procs : ℕ) (ts s : List ℕ) (at n p : ℕ) → items k procs ts s at ≡ fault n p → 0 < n
 unfolding items
@@ -104,9 +104,9 @@ items-refuses zero procs ts s at n p e =
 items-refuses (suc k) procs ts s at n p e =
     after-refuses (checked 4 (turn procs) (number comma feed) s at) _ n p e (λ m o h. exact-turn procs .refuses s at m o h)
     (λ v s′ at′ h q.
-      by-test (λ (r : Rule (List ℕ)). r s′ at′ ≡ fault n p → 0 < n) (eqb (v .1) feed) _ _ (λ t g. absurd (not-ok (ts ++ v .0 ∷ []) s′ at′ n p g))
-      (λ t g. items-refuses k procs (ts ++ v .0 ∷ []) s′ at′ n p g)
-      q)
+    by-test (λ (r : Rule (List ℕ)). r s′ at′ ≡ fault n p → 0 < n) (eqb (v .1) feed) _ _ (λ t g. absurd (not-ok (ts ++ v .0 ∷ []) s′ at′ n p g))
+    (λ t g. items-refuses k procs (ts ++ v .0 ∷ []) s′ at′ n p g)
+    q)
 
 -- ---- the turns' line
 

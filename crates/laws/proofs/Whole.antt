@@ -104,11 +104,14 @@ module _ (k i m : ℕ) (row row′ : List ℕ) (h : i + suc k ≤ length row) wh
 
   -- and back
   agree-up : Agree (suc k) i m row row′ → (entry row′ i ≤ m) × Agree k (i + 1) m (set row i (entry row′ i)) row′
-  agree-up a = (a .most i (omega arith) (omega arith), record {
-    long = a .long ∙ sym (length-set row i (entry row′ i));
-    other = λ j o. there j o (eqb j i) refl;
-    most = λ j l u. a .most j (omega arith) (omega arith);
-  })
+  agree-up a = (
+    a .most i (omega arith) (omega arith),
+    record {
+      long = a .long ∙ sym (length-set row i (entry row′ i));
+      other = λ j o. there j o (eqb j i) refl;
+      most = λ j l u. a .most j (omega arith) (omega arith);
+    },
+  )
     where
       narrow : (j : ℕ) → (j < i + 1) ⊎ (i + 1 + k ≤ j) → (j ≡ i → ⊥) → (j < i) ⊎ (i + suc k ≤ j)
       narrow j (inl l) n = inl (omega arith)
@@ -137,13 +140,13 @@ exact-rows (suc k) i rounds hold a b =
     (λ v p. exact-rows k (i + 1) (set rounds i (v .0)) (set hold i (v .1)) (simp length-set (omega arith)) (simp length-set (omega arith)))
     (λ w. (entry (w .0) i, entry (w .1) i))
     (λ v w p q.
-      ap₂ (λ (x y : ℕ). (x, y)) (agree-first k i mostRounds rounds (w .0) a (v .0) (q .of-rounds)) (agree-first k i mostHold hold (w .1) b (v .1) (q .of-hold))))
+    ap₂ (λ (x y : ℕ). (x, y)) (agree-first k i mostRounds rounds (w .0) a (v .0) (q .of-rounds)) (agree-first k i mostHold hold (w .1) b (v .1) (q .of-hold))))
     (λ w p. record {
       of-rounds = agree-down k i mostRounds rounds (w .0) a (p .0 .0) (p .1 .of-rounds);
       of-hold = agree-down k i mostHold hold (w .1) b (p .0 .1) (p .1 .of-hold);
     })
     (λ w p.
-      let r = agree-up k i mostRounds rounds (w .0) a (p .of-rounds) in
-      let h = agree-up k i mostHold hold (w .1) b (p .of-hold) in
-      ((r .0, h .0), record { of-rounds = r .1; of-hold = h .1 }))
+    let r = agree-up k i mostRounds rounds (w .0) a (p .of-rounds) in
+    let h = agree-up k i mostHold hold (w .1) b (p .of-hold) in
+    ((r .0, h .0), record { of-rounds = r .1; of-hold = h .1 }))
     (λ w p. refl)
