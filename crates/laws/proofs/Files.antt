@@ -1,7 +1,6 @@
 -- The laws of files: round trips, the longest file, and how far read looks.
-use Prim.Native.Nat.{ℕ, zero, suc, _+_, _≤_, _<_}
+use Prim.Native.Nat.{ℕ, _≤_, _<_}
 use mathlib.Core.Path.{_≡_, refl, ap, sym, _∙_, subst}
-use mathlib.Core.Bool.{Bool, true, false}
 use mathlib.Core.List.{List, [], _∷_, _++_}
 use lib.ListN.{length, length-append, replicate, length-replicate}
 use lib.Seq.{take-append-seam}
@@ -26,6 +25,7 @@ use Rattle.laws.proofs.Longest.{near-body, fullest, lastTurns, fullest-
 abbrev readAs : Settings × List ℕ → List ℕ → Reading
 readAs v schedule = record { answer = record { number = 0; place = 0; settings = v .0; count = length (v .1) }; schedule = over (v .1) schedule }
 
+-- what is known of it
 record Read (bytes schedule : List ℕ) : Type 0 where
   value : Settings × List ℕ
   is : reading bytes schedule ≡ readAs value schedule
@@ -54,10 +54,11 @@ read-accepts bytes schedule h = go (was-read bytes schedule h)
         × (bytes ≡ text (settingsOf (reading bytes schedule)) (turnsOf (reading bytes schedule)))
     go x =
         subst (λ (r : Reading). Accepted (settingsOf r) (turnsOf r) × (bytes ≡ text (settingsOf r) (turnsOf r))) (sym (x .is))
-        (subst (λ (t : List ℕ). Accepted (x .value .0) t × (bytes ≡ text (x .value .0) t)) (sym (take-append-seam (x .value .1) _)) (x .full .accepted, x .as-text))
+        (rw (take-append-seam (x .value .1)) (x .full .accepted, x .as-text))
 
 -- ---- write
 
+-- the answer of an accepted call of write
 abbrev writtenAs : List ℕ → List ℕ → Writing
 writtenAs bytes out = record { answer = record { number = 0; count = length bytes }; out = over bytes out }
 
@@ -112,7 +113,8 @@ pub longest-reached : (bytes : List ℕ) × (length bytes ≡ longestFile) × (r
 longest-reached = (
   written (fullest, lastTurns),
   fullest-length,
-  ap (λ (r : Reading). r .answer .number) (read-text (fullest, lastTurns) (replicate mostTurns 0) fullest-full (omega (arith, fullest-full .accepted .few, length-replicate {A = ℕ} mostTurns 0))),
+  ap (λ (r : Reading). r .answer .number)
+      (read-text (fullest, lastTurns) (replicate mostTurns 0) fullest-full (omega (arith, fullest-full .accepted .few, length-replicate {A = ℕ} mostTurns 0))),
 )
 
 -- ---- how far read looks

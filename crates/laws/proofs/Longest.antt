@@ -1,25 +1,23 @@
 -- The longest file: none is longer, and there is one. Its bytes are counted from the bounds and the table.
-use Prim.Native.Nat.{ℕ, zero, suc, _+_, _-_, _*_, _^_, _≤_, _<_}
+use Prim.Native.Nat.{ℕ, zero, suc, _+_, _-_, _*_, _≤_, _<_}
 use mathlib.Core.Path.{_≡_, refl, ap₂, _∙_}
 use mathlib.Core.List.{List, [], _∷_, _++_}
-use mathlib.Core.Bool.{true}
 use lib.ListN.{length, length-append, replicate, length-replicate, getD-replicate, List·getD-eq-default}
 use lib.Dec.{eqb}
 use native.Mathlib.Nat.{suc-mul}
 use native.Mathlib.Omega.{arith}
-use Rattle.rules.specs.Bounds.{mostProcs, mostTicket, mostBudget, mostRounds, mostHold, mostTurns, mostDigits, longestFile}
+use Rattle.rules.specs.Bounds.{mostProcs, mostTicket, mostBudget, mostRounds, mostHold, mostTurns, longestFile}
 use Rattle.rules.specs.Settings.{Settings, entry}
-use Rattle.rules.specs.Machines.{bytes, table, find, numbered, known}
-use Rattle.rules.specs.Rule.{Rule, feed, comma}
+use Rattle.rules.specs.Machines.{bytes, table, find}
+use Rattle.rules.specs.Rule.{feed, comma}
 use Rattle.rules.specs.File.{decimalIn, decimal, label, Front, front, settings, rest, entriesText, rowsText, turnsText, text}
-use Rattle.rules.proofs.Accepted.{Row, Below, Accepted}
-use Rattle.laws.proofs.Exact.{exact-lit}
-use Rattle.laws.proofs.Decimal.{decimal-in}
+use Rattle.rules.proofs.Accepted.{Row, Below}
 use Rattle.laws.proofs.Names.{longestName, exact-name}
-use Rattle.laws.proofs.Whole.{exact-field, exact-rows}
+use Rattle.laws.proofs.Whole.{exact-rows}
 use Rattle.laws.proofs.Turns.{exact-turns}
 use Rattle.laws.proofs.RoundTrip.{body, written, Full, exact-front}
-use Rattle.laws.proofs.Near.{Near, near-then, near-give, near-as, near-lit, near-name, near-field, near-rows, near-turns, width, width-is, entriesMost, rowsMost, rows-wider, turnMost}
+use Rattle.laws.proofs.Near.{Near, near-then, near-give, near-as, near-name, lit-then, field-then, near-rows, near-turns}
+use Rattle.laws.proofs.Near.{width, width-is, entriesMost, rowsMost, rows-wider, turnMost}
 
 -- ---- no file is longer
 
@@ -45,23 +43,21 @@ most-is = refl
 near-front : Near frontMost front
 unfolding front
 near-front =
-    near-as (omega arith)
-    (near-then (exact-lit (bytes "algo=")) (near-lit (bytes "algo="))
-    (λ u p. near-then exact-name near-name
-    (λ algo p. near-then (exact-field (bytes "procs=") 1 mostProcs (omega arith)) (near-field (bytes "procs=") 1 mostProcs mostProcs (omega arith) (omega arith))
-    (λ procs p. near-then (exact-field (bytes "home=") 0 (procs - 1) (omega (arith, p .1))) (near-field (bytes "home=") 0 (procs - 1) (mostProcs - 1) (omega (arith, p .1)) (omega arith))
-    (λ home p. near-then (exact-field (bytes "ticket=") 0 mostTicket (omega arith)) (near-field (bytes "ticket=") 0 mostTicket mostTicket (omega arith) (omega arith))
-    (λ ticket p. near-then (exact-field (bytes "budget=") 0 mostBudget (omega arith)) (near-field (bytes "budget=") 0 mostBudget mostBudget (omega arith) (omega arith))
-    (λ budget p. near-give (record { algo = algo; procs = procs; home = home; ticket = ticket; budget = budget }))))))))
+    near-as (omega arith) (lit-then (bytes "algo=") (near-then exact-name near-name (λ algo p.
+    field-then (bytes "procs=") 1 mostProcs mostProcs (omega arith) (omega arith) (λ procs p.
+    field-then (bytes "home=") 0 (procs - 1) (mostProcs - 1) (omega (arith, p .1)) (omega arith) (λ home p.
+    field-then (bytes "ticket=") 0 mostTicket mostTicket (omega arith) (omega arith) (λ ticket p.
+    field-then (bytes "budget=") 0 mostBudget mostBudget (omega arith) (omega arith) (λ budget p.
+    near-give (record { algo = algo; procs = procs; home = home; ticket = ticket; budget = budget }))))))))
 
 near-rest : (f : Front) → f .procs ≤ mostProcs → Near restMost (rest f)
 unfolding rest
 near-rest f h =
     near-as (omega (arith, rows-wider entriesMost (f .procs) mostProcs 0 h))
-    (near-then (exact-rows (f .procs) 0 _ _ (omega arith) (omega arith)) (near-rows (f .procs) 0 _ _)
-    (λ r p. near-then (exact-lit (bytes "turns=")) (near-lit (bytes "turns="))
-    (λ u p. near-then (exact-turns (f .procs) (omega arith)) (near-turns (f .procs) h)
-    (λ ts p. near-give (settings f (r .0) (r .1), ts)))))
+    (near-then (exact-rows (f .procs) 0 _ _ (omega arith) (omega arith)) (near-rows (f .procs) 0 _ _) (λ r p.
+    lit-then (bytes "turns=")
+    (near-then (exact-turns (f .procs) (omega arith)) (near-turns (f .procs) h) (λ ts p.
+    near-give (settings f (r .0) (r .1), ts)))))
 
 pub near-body : Near longestFile body
 near-body = near-as (omega (arith, most-is)) (near-then exact-front near-front (λ f o. near-rest f (o .procs-high)))
@@ -134,6 +130,9 @@ rows-length (suc k) i rounds hold r h =
     ∙ ap₂ _+_ (entries-length i (entry rounds i) (entry hold i) (r i (omega arith)) (h i (omega arith)))
     (rows-length k (i + 1) rounds hold (λ j l. r j (omega arith)) (λ j l. h j (omega arith)))
 
+full-rows : (n : ℕ) → length (rowsText n 0 (replicate n mostRounds) (replicate n mostHold)) ≡ rowsMost entriesMost n 0
+full-rows n = rows-length n 0 _ _ (λ j l. getD-replicate n j mostRounds 0 (omega arith)) (λ j l. getD-replicate n j mostHold 0 (omega arith))
+
 turns-length : (n t : ℕ) → length (turnsText (replicate (suc n) t)) ≡ suc n * (length (decimal t) + 1)
 unfolding turnsText
 turns-length zero t = simp length-append (omega arith)
@@ -149,6 +148,6 @@ fullest-length =
       width-is lastProc (omega arith),
       width-is mostTicket (omega arith),
       width-is mostBudget (omega arith),
-      rows-length mostProcs 0 (replicate mostProcs mostRounds) (replicate mostProcs mostHold) (λ j l. getD-replicate mostProcs j mostRounds 0 (omega arith)) (λ j l. getD-replicate mostProcs j mostHold 0 (omega arith)),
+      full-rows mostProcs,
       turns-length (mostTurns - 1) lastProc,
     ))

@@ -1,5 +1,5 @@
 -- A name: it is read exactly where a line of the table is named. What is asked of the table is a test that computes.
-use Prim.Native.Nat.{ℕ, zero, suc, _+_, _-_, _≤_, _<_, max}
+use Prim.Native.Nat.{ℕ, suc, _+_, _-_, _≤_, _<_, max}
 use mathlib.Core.Path.{_≡_, refl, ap, ap₂, sym, _∙_}
 use mathlib.Core.List.{List, [], _∷_, _++_, append-assoc, append-nil}
 use mathlib.Core.Bool.{Bool, true, false, _&&_}
@@ -7,13 +7,12 @@ use lib.ListN.{length}
 use lib.Dec.{ltb, leb, eqb}
 use borrow.Author.Tests.{ne-eqb, le-leb, lt-ltb, leb-true, eqb-true, ltb-true}
 use native.Mathlib.Omega.{arith}
-use Rattle.rules.specs.Memory.{pick}
 use Rattle.rules.specs.Bounds.{mostLetters}
 use Rattle.rules.specs.Machines.{same, Line, table, find, numbered, named, known}
 use Rattle.rules.specs.Rule.{Got, ok, fault, feed, isLower, letters, word}
 use Rattle.rules.specs.File.{name}
 use Rattle.rules.specs.Calls.{all}
-use Rattle.rules.proofs.Store.{by-test, both, false-true, True, all-true}
+use Rattle.rules.proofs.Store.{by-test, both, false-true, all-true}
 use Rattle.laws.proofs.Exact.{not-fault, not-ok, on-pick, pick-refuses, same-number, Exact, exact-then, exact-check, exact-give, exact-as}
 
 -- ---- words
@@ -39,7 +38,14 @@ letters-reads k w [] s at l h = rw (append-nil w)
 letters-reads k w (x ∷ ws) s at l h =
     let b = both (isLower x) (lowers ws) l in
     let z : at + 1 + length (ws ++ feed ∷ []) ≡ at + suc (length (ws ++ feed ∷ [])) = omega arith in
-    rw (not-feed x (b .0), lt-ltb 0 k (omega arith), b .0, letters-reads (k - 1) (w ++ x ∷ []) ws s (at + 1) (b .1) (omega arith), append-assoc w (x ∷ []) ws, z)
+    rw (
+      not-feed x (b .0),
+      lt-ltb 0 k (omega arith),
+      b .0,
+      letters-reads (k - 1) (w ++ x ∷ []) ws s (at + 1) (b .1) (omega arith),
+      append-assoc w (x ∷ []) ws,
+      z,
+    )
 
 -- the rest of a name that was read
 record Letters (k : ℕ) (w s v s′ : List ℕ) : Type 0 where
@@ -140,11 +146,13 @@ table-good : every (λ l. all (asked l)) table ≡ true
 table-good = refl
 
 -- a known line that is found is a line of the table, and passes the test
-found : (test good : Line → Bool) (ls : List Line) → every good ls ≡ true → known (find test ls) ≡ true → (good (find test ls) ≡ true) × (test (find test ls) ≡ true)
+found : (test good : Line → Bool) (ls : List Line) → every good ls ≡ true → known (find test ls) ≡ true
+    → (good (find test ls) ≡ true) × (test (find test ls) ≡ true)
 found test good [] e k = absurd (false-true k)
 found test good (l ∷ ls) e k =
     let b = both (good l) (every good ls) e in
-    by-test (λ (x : Line). known x ≡ true → (good x ≡ true) × (test x ≡ true)) (test l) l (find test ls) (λ t q. (b .0, t)) (λ t q. found test good ls (b .1) q) k
+    by-test (λ (x : Line). known x ≡ true → (good x ≡ true) × (test x ≡ true)) (test l) l (find test ls)
+    (λ t q. (b .0, t)) (λ t q. found test good ls (b .1) q) k
 
 same-list : (a b : List ℕ) → same a b ≡ true → a ≡ b
 same-list [] [] e = refl
@@ -155,12 +163,12 @@ same-list (x ∷ a) (y ∷ b) e =
     ap₂ (λ (z : ℕ) (l : List ℕ). z ∷ l) (eqb-true x y (p .0)) (same-list a b (p .1))
 
 -- a known number: its line's name
-record Number (m : ℕ) : Type 0 where
+record Known (m : ℕ) : Type 0 where
   back : named (numbered m .name) .number ≡ m
   is-word : worded (numbered m .name) ≡ true
   long : length (numbered m .name) ≤ longestName
 
-known-number : (m : ℕ) → known (numbered m) ≡ true → Number m
+known-number : (m : ℕ) → known (numbered m) ≡ true → Known m
 known-number m k =
     let f = found (λ l. eqb m (l .number)) (λ l. all (asked l)) table table-good k in
     let t = all-true (asked (numbered m)) (f .0) in

@@ -1,6 +1,6 @@
 -- How far a rule looks. An accepted value spends at most c bytes, and no answer goes by a byte that is more than a number and its separator past them.
 use Prim.Native.Nat.{ℕ, zero, suc, _+_, _-_, _*_, _^_, _≤_, _<_}
-use mathlib.Core.Path.{_≡_, refl, ap, sym, _∙_}
+use mathlib.Core.Path.{_≡_, refl, ap}
 use mathlib.Core.List.{List, [], _∷_, _++_}
 use mathlib.Core.Bool.{Bool, true, false, _&&_, _||_}
 use lib.ListN.{length, length-append, set}
@@ -10,14 +10,15 @@ use native.Mathlib.Nat.{suc-mul}
 use native.Mathlib.Omega.{arith}
 use Rattle.rules.specs.Memory.{pick}
 use Rattle.rules.specs.Bounds.{mostProcs, mostRounds, mostHold, mostTurns, mostLetters, mostDigits}
-use Rattle.rules.specs.Machines.{named, numbered, known}
-use Rattle.rules.specs.Rule.{Got, ok, fault, Rule, after, _>>=_, give, checked, feed, comma, isDigit, isLower, lit, letters, word, digits, number}
+use Rattle.rules.specs.Machines.{named, known}
+use Rattle.rules.specs.Rule.{Got, ok, fault, Rule, after, _>>=_, _>>_, give, checked, feed, comma, isDigit, isLower, lit, letters, word, digits, number}
 use Rattle.rules.specs.File.{decimalIn, decimal, label, name, ranged, field, entries, rows, items, turns}
 use Rattle.rules.proofs.Store.{by-test, either, left-of, false-true}
-use Rattle.laws.proofs.Exact.{on-after, not-fault, Exact, exact-lit}
+use Rattle.laws.proofs.Exact.{on-after, Exact, exact-lit}
 use Rattle.laws.proofs.Decimal.{decimal-in, decimal-wider}
+use Rattle.laws.proofs.Numbers.{roomAfter, room-fits}
 use Rattle.laws.proofs.Names.{longestName, name-length, exact-name}
-use Rattle.laws.proofs.Whole.{exact-ranged, exact-entries}
+use Rattle.laws.proofs.Whole.{Between, exact-ranged, exact-field, exact-entries}
 use Rattle.laws.proofs.Turns.{exact-item}
 
 -- a number and its separator
@@ -40,7 +41,8 @@ pub record Near {A : Type 0} (c : ℕ) (r : Rule A) : Type 0 where
 -- ---- rules put together
 
 -- the second rule may go by what the first one's value is known to be
-module _ {A B : Type 0} {r : Rule A} {w : A → List ℕ} {P : A → Type 0} {f : A → Rule B} {c d : ℕ} (er : Exact r w P) (nr : Near c r) (nf : (a : A) → P a → Near d (f a)) where
+module _ {A B : Type 0} {r : Rule A} {w : A → List ℕ} {P : A → Type 0} {f : A → Rule B} {c d : ℕ}
+    (er : Exact r w P) (nr : Near c r) (nf : (a : A) → P a → Near d (f a)) where
   then-cuts : (left more : List ℕ) (at : ℕ) → c + d + slack ≤ length left → _>>=_ r f (left ++ more) at ≡ extend more (_>>=_ r f left at)
   then-cuts left more at h = rw (nr .cuts .same left more at (omega arith)) (go (r left at) refl)
     where
@@ -57,7 +59,10 @@ module _ {A B : Type 0} {r : Rule A} {w : A → List ℕ} {P : A → Type 0} {f 
   }
 
 pub near-give : {A : Type 0} (v : A) → Near 0 (give v)
-near-give v = record { spends = λ left at w left′ at′ e. let z : left ≡ left′ = cc in omega (arith, ap length z); cuts = record { same = λ left more at h. refl } }
+near-give v = record {
+  spends = λ left at w left′ at′ e. let z : left ≡ left′ = cc in omega (arith, ap length z);
+  cuts = record { same = λ left more at h. refl };
+}
 
 cuts-as : {A : Type 0} {r : Rule A} {m k : ℕ} → m ≤ k → Cuts m r → Cuts k r
 cuts-as h c = record { same = λ left more at l. c .same left more at (omega arith) }
@@ -66,14 +71,16 @@ pub near-as : {A : Type 0} {r : Rule A} {c d : ℕ} → c ≤ d → Near c r →
 near-as h n = record { spends = λ left at v left′ at′ e. omega (arith, n .spends left at v left′ at′ e); cuts = cuts-as (omega arith) (n .cuts) }
 
 -- where the texts have at most c bytes
-near-exact : {A : Type 0} {r : Rule A} {w : A → List ℕ} {P : A → Type 0} {c : ℕ} → Exact r w P → ((v : A) → P v → length (w v) ≤ c) → Cuts (c + slack) r → Near c r
+near-exact : {A : Type 0} {r : Rule A} {w : A → List ℕ} {P : A → Type 0} {c : ℕ}
+    → Exact r w P → ((v : A) → P v → length (w v) ≤ c) → Cuts (c + slack) r → Near c r
 near-exact {w = w} er h k = record {
   spends = λ left at v left′ at′ e. let x = er .was left at v left′ at′ e in omega (arith, ap length (x .0), length-append (w v) left′, h v (x .1));
   cuts = k;
 }
 
 -- of two answers
-cuts-pick : {A : Type 0} (b : Bool) (more : List ℕ) (g h g′ h′ : Got A) → (b ≡ true → g′ ≡ extend more g) → h′ ≡ extend more h → pick b g′ h′ ≡ extend more (pick b g h)
+cuts-pick : {A : Type 0} (b : Bool) (more : List ℕ) (g h g′ h′ : Got A)
+    → (b ≡ true → g′ ≡ extend more g) → h′ ≡ extend more h → pick b g′ h′ ≡ extend more (pick b g h)
 cuts-pick true more g h g′ h′ p q = p refl
 cuts-pick false more g h g′ h′ p q = q
 
@@ -105,8 +112,12 @@ lit-same (b ∷ bs) (x ∷ left) more at h = cuts-pick (eqb x b) more _ _ _ _ (�
 cuts-lit : (bs : List ℕ) → Cuts (length bs) (lit bs)
 cuts-lit bs = record { same = lit-same bs }
 
-pub near-lit : (bs : List ℕ) → Near (length bs) (lit bs)
+near-lit : (bs : List ℕ) → Near (length bs) (lit bs)
 near-lit bs = near-exact (exact-lit bs) (λ v p. omega arith) (cuts-as (omega arith) (cuts-lit bs))
+
+-- these bytes, and then another rule
+pub lit-then : {B : Type 0} {f : Rule B} {d : ℕ} (bs : List ℕ) → Near d f → Near (length bs + d) (_>>_ (lit bs) f)
+lit-then bs n = near-then (exact-lit bs) (near-lit bs) (λ u p. n)
 
 letters-same : (k : ℕ) (w left more : List ℕ) (at : ℕ) → k + 1 ≤ length left → letters k w (left ++ more) at ≡ extend more (letters k w left at)
 unfolding letters
@@ -136,10 +147,7 @@ number-same : (a b : ℕ) (left more : List ℕ) (at : ℕ) → slack ≤ length
 unfolding number
 number-same a b [] more at h = absurd (omega arith)
 number-same a b (x ∷ left) more at h =
-    cuts-pick (isDigit x) more _ _ _ _
-    (λ t. digits-same a b (pick (eqb x 48) 0 (mostDigits - 1)) (x - 48) left more (at + 1)
-    (either (λ (k : ℕ). k + 1 ≤ length left) (eqb x 48) _ _ (omega arith) (omega arith)))
-    refl
+    cuts-pick (isDigit x) more _ _ _ _ (λ t. digits-same a b (roomAfter x) (x - 48) left more (at + 1) (omega (arith, room-fits x))) refl
 
 cuts-number : (a b : ℕ) → Cuts slack (number a b)
 cuts-number a b = record { same = number-same a b }
@@ -162,14 +170,21 @@ width-is n h = ap length (decimal-in mostDigits n (omega arith))
 width-most : (n most : ℕ) → n ≤ most → most < 10 ^ mostDigits → length (decimal n) ≤ width most
 width-most n most h l = omega (arith, decimal-wider n most h, width-is most l)
 
--- a range that ends at most or before it
-pub near-ranged : (x lo hi most : ℕ) → isDigit x ≡ false → hi ≤ most → most < 10 ^ mostDigits → Near (width most + 1) (ranged x lo hi)
-near-ranged x lo hi most nx h l =
-    near-exact (exact-ranged x lo hi nx (omega arith)) (λ n p. simp length-append (omega (arith, width-most n most (omega (arith, p .1)) l)))
+-- a number from lo to hi, where hi is at most `most`
+near-ranged : (x lo hi most : ℕ) → isDigit x ≡ false → hi ≤ most → most < 10 ^ mostDigits → Near (width most + 1) (ranged x lo hi)
+near-ranged x lo hi most nx h m =
+    near-exact (exact-ranged x lo hi nx (omega arith)) (λ n p. simp length-append (omega (arith, width-most n most (omega (arith, p .1)) m)))
     (cuts-as (omega arith) (cuts-map (λ v. v .0) (cuts-check 3 (λ v. leb lo (v .0) && leb (v .0) hi) (cuts-number x x))))
 
-pub near-field : (l : List ℕ) (lo hi most : ℕ) → hi ≤ most → most < 10 ^ mostDigits → Near (length l + (width most + 1)) (field l lo hi)
-near-field l lo hi most h m = near-then (exact-lit l) (near-lit l) (λ u p. near-ranged feed lo hi most refl h m)
+-- and then another rule
+module _ {B : Type 0} {f : ℕ → Rule B} {d : ℕ} where
+  ranged-then : (x lo hi most : ℕ) → isDigit x ≡ false → hi ≤ most → most < 10 ^ mostDigits → ((n : ℕ) → Between lo hi n → Near d (f n))
+      → Near (width most + 1 + d) (_>>=_ (ranged x lo hi) f)
+  ranged-then x lo hi most nx h m nf = near-then (exact-ranged x lo hi nx (omega arith)) (near-ranged x lo hi most nx h m) nf
+
+  pub field-then : (l : List ℕ) (lo hi most : ℕ) → hi ≤ most → most < 10 ^ mostDigits → ((n : ℕ) → Between lo hi n → Near d (f n))
+      → Near (length l + (width most + 1) + d) (_>>=_ (field l lo hi) f)
+  field-then l lo hi most h m nf = near-then (exact-field l lo hi (omega arith)) (lit-then l (near-ranged feed lo hi most refl h m)) nf
 
 -- what a processor's line has after its label
 abbrev pub entriesMost : ℕ
@@ -177,10 +192,10 @@ entriesMost = width mostRounds + 1 + (width mostHold + 1)
 
 near-entries : (i : ℕ) → Near (length (label i) + entriesMost) (entries i)
 near-entries i =
-    near-as (omega arith)
-    (near-then (exact-lit (label i)) (near-lit (label i))
-    (λ u p. near-then (exact-ranged comma 0 mostRounds refl (omega arith)) (near-ranged comma 0 mostRounds mostRounds refl (omega arith) (omega arith))
-    (λ r p. near-then (exact-ranged feed 0 mostHold refl (omega arith)) (near-ranged feed 0 mostHold mostHold refl (omega arith) (omega arith)) (λ h p. near-give (r, h)))))
+    near-as (omega arith) (lit-then (label i)
+    (ranged-then comma 0 mostRounds mostRounds refl (omega arith) (omega arith) (λ r p.
+    ranged-then feed 0 mostHold mostHold refl (omega arith) (omega arith) (λ h p.
+    near-give (r, h)))))
 
 -- the lines of k processors from i on, where each has n bytes after its label
 unfoldable pub rowsMost : ℕ → ℕ → ℕ → ℕ
@@ -220,7 +235,9 @@ near-items zero procs ts h = record {
 near-items (suc k) procs ts h =
     near-as (omega (arith, suc-mul k turnMost))
     (near-then (exact-item 4 (λ v. ltb (v .0) procs) (omega arith)) (near-turn procs h)
-    (λ v p. either (λ (r : Rule (List ℕ)). Near (k * turnMost) r) (eqb (v .1) feed) _ _ (near-as (omega arith) (near-give (ts ++ v .0 ∷ []))) (near-items k procs (ts ++ v .0 ∷ []) h)))
+    (λ v p.
+    either (λ (r : Rule (List ℕ)). Near (k * turnMost) r) (eqb (v .1) feed) _ _ (near-as (omega arith) (near-give (ts ++ v .0 ∷ [])))
+    (near-items k procs (ts ++ v .0 ∷ []) h)))
 
 pub near-turns : (procs : ℕ) → procs ≤ mostProcs → Near (mostTurns * turnMost) (turns procs)
 unfolding turns

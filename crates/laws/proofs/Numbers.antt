@@ -1,6 +1,6 @@
 -- A number: it is read exactly where its decimal digits are written, with a separator after them.
 use Prim.Native.Nat.{ℕ, zero, suc, _+_, _-_, _*_, _/_, _%_, _^_, _≤_, _<_}
-use mathlib.Core.Path.{_≡_, refl, ap, ap₂, sym, _∙_, subst}
+use mathlib.Core.Path.{_≡_, refl, ap, sym, _∙_, subst}
 use mathlib.Core.List.{List, [], _∷_, _++_, append-assoc, append-nil}
 use mathlib.Core.Bool.{Bool, true, false, _&&_, _||_}
 use mathlib.Core.Logic.{_⊎_, inl, inr}
@@ -11,11 +11,11 @@ use native.Mathlib.Nat.{add-assoc, pow-le-pow-right}
 use native.Mathlib.Omega.{arith}
 use Rattle.rules.specs.Memory.{pick}
 use Rattle.rules.specs.Bounds.{mostDigits}
-use Rattle.rules.specs.Rule.{Got, ok, fault, Rule, isDigit, digits, number}
+use Rattle.rules.specs.Rule.{Got, ok, fault, isDigit, digits, number}
 use Rattle.rules.specs.File.{decimal}
-use Rattle.rules.proofs.Store.{both, false-true, by-test}
+use Rattle.rules.proofs.Store.{both, false-true, either, by-test}
 use Rattle.laws.proofs.Exact.{not-fault, not-ok, on-pick, pick-refuses, same-number, Exact}
-use Rattle.laws.proofs.Decimal.{decimal-one, decimal-long, decimal-more, decimal-length}
+use Rattle.laws.proofs.Decimal.{decimal-one, decimal-more, decimal-length}
 
 abbrev pub IsSep : ℕ → ℕ → ℕ → Type 0
 IsSep a b x = (x ≡ a) ⊎ (x ≡ b)
@@ -49,12 +49,24 @@ is-digit x t = let w = both (leb 48 x) (leb x 57) t in (leb-true 48 x (w .0), le
 digit-is : (d : ℕ) → d < 10 → isDigit (48 + d) ≡ true
 digit-is d h = rw (le-leb 48 (48 + d) (omega arith), le-leb (48 + d) 57 (omega arith))
 
+-- the first digit is 0 where the number is
 zero-test : (n : ℕ) → eqb (48 + n) 48 ≡ eqb n 0
 zero-test n = go (eqb n 0) refl
   where
     go : (t : Bool) → eqb n 0 ≡ t → eqb (48 + n) 48 ≡ t
     go true e = eq-eqb (48 + n) 48 (omega (arith, eqb-true n 0 e))
     go false e = ne-eqb (48 + n) 48 (λ q. eqb-false n 0 e (omega arith))
+
+-- how many digits may follow a first digit
+abbrev pub roomAfter : ℕ → ℕ
+roomAfter x = pick (eqb x 48) 0 (mostDigits - 1)
+
+pub room-fits : (x : ℕ) → 1 + roomAfter x ≤ mostDigits
+room-fits x = either (λ (k : ℕ). 1 + k ≤ mostDigits) (eqb x 48) 0 (mostDigits - 1) (omega arith) (omega arith)
+
+room-some : (x : ℕ) → 48 ≤ x → 0 < roomAfter x → 0 < x - 48
+room-some x h =
+    by-test (λ (k : ℕ). 0 < k → 0 < x - 48) (eqb x 48) 0 (mostDigits - 1) (λ f k. absurd (omega arith)) (λ f k. omega (arith, eqb-false x 48 f))
 
 -- ---- what was read
 
@@ -107,19 +119,17 @@ module _ (a b : ℕ) (v : ℕ × ℕ) (s′ : List ℕ) (at′ : ℕ) where
   number-was : (s : List ℕ) (at : ℕ) → number a b s at ≡ ok v s′ at′ → (s ≡ numberText v ++ s′) × Number a b v
   unfolding number
   number-was [] at e = absurd (not-fault v s′ at′ 1 at e)
-  number-was (x ∷ s) at e = on-pick v s′ at′ (isDigit x) _ 1 at e (λ t q.
+  number-was (x ∷ s) at e =
+      on-pick v s′ at′ (isDigit x) _ 1 at e
+      (λ t q.
       let d = is-digit x t in
       let lo : 48 ≤ x = d .0 in
       let hi : x ≤ 57 = d .1 in
-      let xx : 48 + (x - 48) ≡ x = omega arith in
-      let room : pick (eqb x 48) 0 (mostDigits - 1) + 1 ≤ mostDigits = by-test (λ (k : ℕ). k + 1 ≤ mostDigits) (eqb x 48) _ _ (λ f. omega arith) (λ f. omega arith) in
-      let some : 0 < pick (eqb x 48) 0 (mostDigits - 1) → 0 < x - 48 =
-      by-test (λ (k : ℕ). 0 < k → 0 < x - 48) (eqb x 48) _ _ (λ f k. absurd (omega arith)) (λ f k. omega (arith, eqb-false x 48 f)) in
-      let r = digits-was _ 1 (x - 48) s (at + 1) some (omega arith) (omega arith) q in
-      (together x (x - 48) s xx (omega arith) r, (r .most, r .sep)))
+      let r = digits-was (roomAfter x) 1 (x - 48) s (at + 1) (room-some x lo) (omega arith) (room-fits x) q in
+      (together x (x - 48) s (omega arith) (omega arith) r, (r .most, r .sep)))
     where
-      together : (x n : ℕ) (s : List ℕ) → 48 + n ≡ x → n < 10 → Rest n s → x ∷ s ≡ numberText v ++ s′
-      together x n s e h r = rw (append-assoc, r .whole, decimal-one n h, e) (ap (λ (l : List ℕ). x ∷ l) (r .cut))
+      together : (x n : ℕ) (s : List ℕ) → x ≡ 48 + n → n < 10 → Rest n s → x ∷ s ≡ numberText v ++ s′
+      together x n s e h r = rw (append-assoc, r .whole, decimal-one n h, e) (ap (λ (l : List ℕ). (48 + n) ∷ l) (r .cut))
 
 -- a refusal of a number is 1
 digits-refuses : (a b k n : ℕ) (s : List ℕ) (at m p : ℕ) → digits a b k n s at ≡ fault m p → 0 < m

@@ -6,16 +6,16 @@ use mathlib.Core.Bool.{true}
 use mathlib.Core.Logic.{_⊎_, inl, inr}
 use lib.ListN.{length, replicate}
 use native.Mathlib.Omega.{arith}
-use Rattle.rules.specs.Bounds.{mostProcs, mostTicket, mostBudget, mostRounds, mostHold}
+use Rattle.rules.specs.Bounds.{mostProcs, mostTicket, mostBudget}
 use Rattle.rules.specs.Settings.{Settings, entry, zeros}
 use Rattle.rules.specs.Machines.{bytes, numbered, known}
 use Rattle.rules.specs.Rule.{Got, ok, fault, Rule, after, _>>=_, _>>_, give, feed, end}
-use Rattle.rules.specs.File.{Front, front, settings, rest, whole, file, fieldText, rowsText, turnsText, text}
+use Rattle.rules.specs.File.{Front, front, settings, rest, whole, file, fieldText, text}
 use Rattle.rules.proofs.Accepted.{Row, Accepted}
 use Rattle.laws.proofs.Exact.{not-fault, not-ok, on-after, after-refuses, same-number, Exact, exact-then, exact-give, exact-as, exact-lit}
 use Rattle.laws.proofs.Names.{exact-name}
-use Rattle.laws.proofs.Whole.{Agree, Rows, exact-field, exact-rows}
-use Rattle.laws.proofs.Turns.{Turns, exact-turns}
+use Rattle.laws.proofs.Whole.{Agree, exact-field, exact-rows}
+use Rattle.laws.proofs.Turns.{exact-turns}
 
 -- ---- the rows
 
@@ -25,7 +25,10 @@ zero-entry (suc n) zero = refl
 zero-entry (suc n) (suc j) = zero-entry n j
 
 agree-row : (procs most : ℕ) (row : List ℕ) → Agree procs 0 most zeros row → Row procs most row
-agree-row procs most row a = record { fits = λ i h. a .most i (omega arith) (omega arith); past = λ i h. a .other i (inr (omega arith)) ∙ zero-entry mostProcs i }
+agree-row procs most row a = record {
+  fits = λ i h. a .most i (omega arith) (omega arith);
+  past = λ i h. a .other i (inr (omega arith)) ∙ zero-entry mostProcs i;
+}
 
 row-agree : (procs most : ℕ) (row : List ℕ) → length row ≡ mostProcs → Row procs most row → Agree procs 0 most zeros row
 row-agree procs most row e r = record { long = e; other = other; most = λ j l u. r .fits j (omega arith) }
@@ -79,7 +82,9 @@ exact-front =
       ticket = q .1 .1 .0 .1;
       budget = q .1 .1 .1 .0 .1;
     })
-    (λ f o. (tt, (o .algo, ((o .procs-low, o .procs-high), ((omega arith, omega (arith, o .home)), ((omega arith, o .ticket), ((omega arith, o .budget), refl)))))))
+    (λ f o.
+    let home : f .home ≤ f .procs - 1 = omega (arith, o .home) in
+    (tt, (o .algo, ((o .procs-low, o .procs-high), ((omega arith, home), ((omega arith, o .ticket), ((omega arith, o .budget), refl)))))))
     (λ f o. simp append-nil)
 
 -- ---- all of it

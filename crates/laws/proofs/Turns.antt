@@ -1,17 +1,16 @@
 -- The turns: they are read exactly where they are written.
 use Prim.Native.Nat.{ℕ, zero, suc, _+_, _^_, _≤_, _<_}
-use mathlib.Core.Path.{_≡_, refl, ap, sym, _∙_, subst}
-use mathlib.Core.List.{List, [], _∷_, _++_, append-assoc, append-nil}
+use mathlib.Core.Path.{_≡_, refl, sym, _∙_, subst}
+use mathlib.Core.List.{List, [], _∷_, _++_, append-assoc}
 use mathlib.Core.Bool.{Bool, true, false}
-use mathlib.Core.Logic.{_⊎_, inl, inr}
+use mathlib.Core.Logic.{inl, inr}
 use lib.ListN.{length, length-append}
 use lib.Dec.{ltb, eqb}
 use borrow.Author.Tests.{eqb-true, eqb-false, lt-ltb, ltb-true}
 use native.Mathlib.Nat.{add-assoc}
 use native.Mathlib.Omega.{arith}
-use Rattle.rules.specs.Memory.{pick}
 use Rattle.rules.specs.Bounds.{mostTurns, mostDigits}
-use Rattle.rules.specs.Rule.{Got, ok, fault, Rule, give, feed, comma, checked, number}
+use Rattle.rules.specs.Rule.{Got, ok, fault, Rule, feed, comma, checked, number}
 use Rattle.rules.specs.File.{decimal, items, turns, turnsText}
 use Rattle.rules.proofs.Store.{by-test, false-true}
 use Rattle.rules.proofs.Accepted.{Below}

@@ -1,24 +1,21 @@
--- The lines of a file and its turns, each read exactly where it is written.
-use Prim.Native.Nat.{ℕ, zero, suc, _+_, _-_, _^_, _≤_, _<_}
-use mathlib.Core.Path.{_≡_, refl, ap, ap₂, sym, _∙_, subst}
-use mathlib.Core.List.{List, [], _∷_, _++_, append-assoc, append-nil}
+-- The lines of a file, each read exactly where it is written.
+use Prim.Native.Nat.{ℕ, zero, suc, _+_, _^_, _≤_, _<_}
+use mathlib.Core.Path.{_≡_, refl, ap, ap₂, sym, _∙_}
+use mathlib.Core.List.{List, [], _∷_, _++_, append-nil}
 use mathlib.Core.Bool.{Bool, true, false, _&&_}
 use mathlib.Core.Logic.{_⊎_, inl, inr}
-use lib.ListN.{length, length-append, set, length-set}
+use lib.ListN.{length, set, length-set}
 use lib.Seq.{getD-set-same, getD-set-other, ext-getD}
 use lib.Dec.{ltb, leb, eqb}
-use borrow.Author.Tests.{eq-eqb, ne-eqb, le-leb, lt-ltb, leb-true, eqb-true, eqb-false, ltb-true, ltb-false}
-use native.Mathlib.Nat.{add-assoc}
+use borrow.Author.Tests.{le-leb, leb-true, eqb-true, eqb-false, ltb-true, ltb-false}
 use native.Mathlib.Omega.{arith}
-use Rattle.rules.specs.Memory.{pick}
-use Rattle.rules.specs.Bounds.{mostProcs, mostRounds, mostHold, mostTurns, mostDigits}
+use Rattle.rules.specs.Bounds.{mostRounds, mostHold, mostDigits}
 use Rattle.rules.specs.Settings.{entry}
-use Rattle.rules.specs.Rule.{Got, ok, fault, Rule, after, give, feed, comma, isDigit, checked, number}
-use Rattle.rules.specs.File.{decimal, label, ranged, field, entries, rows, items, turns, fieldText, entriesText, rowsText, turnsText}
-use Rattle.rules.proofs.Store.{both, by-test, false-true}
-use Rattle.rules.proofs.Accepted.{Below}
-use Rattle.laws.proofs.Exact.{not-fault, not-ok, on-pick, on-after, pick-refuses, same-number, Exact, exact-then, exact-check, exact-give, exact-as, exact-lit}
-use Rattle.laws.proofs.Numbers.{IsSep, Number, numberText, exact-number}
+use Rattle.rules.specs.Rule.{feed, comma, isDigit}
+use Rattle.rules.specs.File.{decimal, label, ranged, field, entries, rows, fieldText, entriesText, rowsText}
+use Rattle.rules.proofs.Store.{both}
+use Rattle.laws.proofs.Exact.{Exact, exact-then, exact-check, exact-give, exact-as, exact-lit}
+use Rattle.laws.proofs.Numbers.{IsSep, exact-number}
 
 -- ---- a number in its range
 
