@@ -11,3 +11,14 @@ pub mod Costs
 pub mod McsCost
 pub mod Doubling
 pub mod Refusals
+pub mod Exact
+pub mod Decimal
+pub mod Numbers
+pub mod Names
+pub mod Whole
+pub mod Turns
+pub mod RoundTrip
+pub mod Near
+pub mod Longest
+pub mod Files
+pub mod All

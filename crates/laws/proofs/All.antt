@@ -1,0 +1,44 @@
+-- The laws, each by its proof.
+use Rattle.rules.specs.Cases.{all-hold}
+use Rattle.rules.proofs.Plays.{continued}
+use Rattle.rules.proofs.Counts.{within-budget}
+use Rattle.laws.specs.Laws.{Laws}
+use Rattle.laws.proofs.Beginnings as beginnings
+use Rattle.laws.proofs.Totals.{total-counted, total-summed}
+use Rattle.laws.proofs.Courses as courses
+use Rattle.laws.proofs.Lines as lines
+use Rattle.laws.proofs.McsCost.{four, four-reached}
+use Rattle.laws.proofs.Refusals as refusals
+use Rattle.laws.proofs.Files as files
+use Rattle.laws.proofs.Doubling.{doublings-reach, doublings-least}
+
+pub all-laws : Laws
+all-laws = record {
+  cases = all-hold;
+  beginnings = record {
+    continued = continued;
+    contains = beginnings.beginnings;
+    taken = beginnings.taken;
+    stopped = beginnings.stopped;
+    budget = within-budget;
+    counted = total-counted;
+    summed = total-summed;
+  };
+  courses = record { rounds = courses.rounds; hold-turns = courses.hold-turns; hold-over = courses.hold-over };
+  line = record { locks = lines.line; accepted = lines.line-accepted; files = files.line-file };
+  distance = lines.distance;
+  agree = lines.agree;
+  four = four;
+  refusals = record {
+    write = refusals.refusals-write;
+    run = refusals.refusals-run;
+    write-leaves = refusals.untouched-write;
+    run-leaves = refusals.untouched-run;
+    read-leaves = refusals.untouched-read;
+  };
+  read-write = files.read-write;
+  write-read = files.write-read;
+  longest = record { at-most = files.longest; cut = files.cut; in-buffer = files.farthest-below };
+  reached = record { four = four-reached; longest = files.longest-reached };
+  doublings = record { reach = doublings-reach; least = doublings-least };
+}

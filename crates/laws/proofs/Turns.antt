@@ -1,0 +1,153 @@
+-- The turns: they are read exactly where they are written.
+use Prim.Native.Nat.{ℕ, zero, suc, _+_, _^_, _≤_, _<_}
+use mathlib.Core.Path.{_≡_, refl, sym, _∙_, subst}
+use mathlib.Core.List.{List, [], _∷_, _++_, append-assoc}
+use mathlib.Core.Bool.{Bool, true, false}
+use mathlib.Core.Logic.{inl, inr}
+use lib.ListN.{length, length-append}
+use lib.Dec.{ltb, eqb}
+use borrow.Author.Tests.{eqb-true, eqb-false, lt-ltb, ltb-true}
+use native.Mathlib.Nat.{add-assoc}
+use native.Mathlib.Omega.{arith}
+use Rattle.rules.specs.Bounds.{mostTurns, mostDigits}
+use Rattle.rules.specs.Rule.{Got, ok, fault, Rule, feed, comma, checked, number}
+use Rattle.rules.specs.File.{decimal, items, turns, turnsText}
+use Rattle.rules.proofs.Store.{by-test, false-true}
+use Rattle.rules.proofs.Accepted.{Below}
+use Rattle.laws.proofs.Exact.{not-fault, not-ok, on-after, pick-refuses, after-refuses, same-number, Exact, exact-check}
+use Rattle.laws.proofs.Numbers.{IsSep, Number, numberText, exact-number}
+
+-- a number of the schedule, and its separator, where the number passes a test
+pub exact-item : (n : ℕ) (test : ℕ × ℕ → Bool) → 0 < n → Exact (checked n test (number comma feed)) numberText (λ v. Number comma feed v × (test v ≡ true))
+exact-item n test z = exact-check n test z (exact-number comma feed refl refl)
+
+abbrev turn : ℕ → ℕ × ℕ → Bool
+turn procs v = ltb (v .0) procs
+
+exact-turn : (procs : ℕ) → Exact (checked 4 (turn procs) (number comma feed)) numberText (λ v. Number comma feed v × (turn procs v ≡ true))
+exact-turn procs = exact-item 4 (turn procs) (omega arith)
+
+-- ---- what is read
+
+turn-reads : (procs t x : ℕ) (s : List ℕ) (at : ℕ) → procs ≤ 10 ^ mostDigits → t < procs → IsSep comma feed x
+    → checked 4 (turn procs) (number comma feed) ((decimal t ++ x ∷ []) ++ s) at ≡ ok (t, x) s (at + length (decimal t ++ x ∷ []))
+turn-reads procs t x s at hp h p = exact-turn procs .reads (t, x) ((omega arith, p), lt-ltb t procs h) s at
+
+items-reads : (k procs : ℕ) (ts : List ℕ) (t : ℕ) (us : List ℕ) → procs ≤ 10 ^ mostDigits → Below procs (t ∷ us) → length (t ∷ us) ≤ k
+    → (s : List ℕ) (at : ℕ) → items k procs ts (turnsText (t ∷ us) ++ s) at ≡ ok (ts ++ t ∷ us) s (at + length (turnsText (t ∷ us)))
+unfolding items turnsText
+items-reads zero procs ts t us hp b c s at = absurd (omega arith)
+items-reads (suc k) procs ts t [] hp b c s at = rw (turn-reads procs t feed s at hp (b .0) (inr refl))
+items-reads (suc k) procs ts t (u ∷ us) hp b c s at =
+    rw (
+      append-assoc (decimal t ++ comma ∷ []) (turnsText (u ∷ us)) s,
+      turn-reads procs t comma (turnsText (u ∷ us) ++ s) at hp (b .0) (inl refl),
+      items-reads k procs (ts ++ t ∷ []) u us hp (b .1) (omega arith) s (at + length (decimal t ++ comma ∷ [])),
+      append-assoc ts (t ∷ []) (u ∷ us),
+      length-append (decimal t ++ comma ∷ []) (turnsText (u ∷ us)),
+      add-assoc,
+    )
+
+-- ---- what was read
+
+-- us is ts and then those that were read from s
+record Items (k procs : ℕ) (ts us s s′ : List ℕ) : Type 0 where
+  head : ℕ
+  tail : List ℕ
+  whole : us ≡ ts ++ head ∷ tail
+  cut : s ≡ turnsText (head ∷ tail) ++ s′
+  below : Below procs (head ∷ tail)
+  few : length (head ∷ tail) ≤ k
+
+sep-comma : (x : ℕ) → IsSep comma feed x → (x ≡ feed → ⊥) → x ≡ comma
+sep-comma x (inl e) n = e
+sep-comma x (inr e) n = absurd (n e)
+
+module _ (k procs : ℕ) (ts us s s″ s′ : List ℕ) (v : ℕ × ℕ) (c : s ≡ numberText v ++ s″) (l : v .0 < procs) where
+  item-last : v .1 ≡ feed → ts ++ v .0 ∷ [] ≡ us → s″ ≡ s′ → Items (suc k) procs ts us s s′
+  unfolding turnsText
+  item-last x w e = record { head = v .0; tail = []; whole = sym w; cut = rw (← x, ← e) c; below = (l, tt); few = omega arith }
+
+  item-more : v .1 ≡ comma → Items k procs (ts ++ v .0 ∷ []) us s″ s′ → Items (suc k) procs ts us s s′
+  unfolding turnsText
+  item-more x i = record {
+    head = v .0;
+    tail = i .head ∷ i .tail;
+    whole = i .whole ∙ append-assoc ts (v .0 ∷ []) (i .head ∷ i .tail);
+    cut = c ∙ rw (x, i .cut) (sym (append-assoc (decimal (v .0) ++ comma ∷ []) (turnsText (i .head ∷ i .tail)) s′));
+    below = (l, i .below);
+    few = omega (arith, i .few);
+  }
+
+items-was : (k procs : ℕ) (ts s : List ℕ) (at : ℕ) (us s′ : List ℕ) (at′ : ℕ) → items k procs ts s at ≡ ok us s′ at′ → Items k procs ts us s s′
+unfolding items
+items-was zero procs ts s at us s′ at′ e =
+    on-after us s′ at′ (checked 5 (λ v. false) (number comma feed) s at) _ e
+    (λ v s″ at″ f g. absurd (false-true (exact-item 5 (λ v. false) (omega arith) .was s at v s″ at″ f .1 .1)))
+items-was (suc k) procs ts s at us s′ at′ e =
+    on-after us s′ at′ (checked 4 (turn procs) (number comma feed) s at) _ e
+    (λ v s″ at″ f g.
+    let x = exact-turn procs .was s at v s″ at″ f in
+    let l = ltb-true (v .0) procs (x .1 .1) in
+    by-test (λ (r : Rule (List ℕ)). r s″ at″ ≡ ok us s′ at′ → Items (suc k) procs ts us s s′) (eqb (v .1) feed) _ _
+    (λ t q. item-last k procs ts us s s″ s′ v (x .0) l (eqb-true _ _ t) (cc) (cc))
+    (λ t q.
+    item-more k procs ts us s s″ s′ v (x .0) l (sep-comma (v .1) (x .1 .0 .1) (eqb-false _ _ t)) (items-was k procs (ts ++ v .0 ∷ []) s″ at″ us s′ at′ q))
+    g)
+
+items-refuses : (k procs : ℕ) (ts s : List ℕ) (at n p : ℕ) → items k procs ts s at ≡ fault n p → 0 < n
+unfolding items
+items-refuses zero procs ts s at n p e =
+    after-refuses (checked 5 (λ v. false) (number comma feed) s at) _ n p e (λ m o h. exact-item 5 (λ v. false) (omega arith) .refuses s at m o h)
+    (λ v s′ at′ h q. absurd (not-ok ts s′ at′ n p q))
+items-refuses (suc k) procs ts s at n p e =
+    after-refuses (checked 4 (turn procs) (number comma feed) s at) _ n p e (λ m o h. exact-turn procs .refuses s at m o h)
+    (λ v s′ at′ h q.
+    by-test (λ (r : Rule (List ℕ)). r s′ at′ ≡ fault n p → 0 < n) (eqb (v .1) feed) _ _ (λ t g. absurd (not-ok (ts ++ v .0 ∷ []) s′ at′ n p g))
+    (λ t g. items-refuses k procs (ts ++ v .0 ∷ []) s′ at′ n p g)
+    q)
+
+-- ---- the turns' line
+
+abbrev pub Turns : ℕ → List ℕ → Type 0
+Turns procs ts = Below procs ts × (length ts ≤ mostTurns)
+
+from-items : (procs : ℕ) (ts s s′ : List ℕ) → Items mostTurns procs [] ts s s′ → (s ≡ turnsText ts ++ s′) × Turns procs ts
+from-items procs ts s s′ i = rw (i .whole) (i .cut, (i .below, i .few))
+
+no-turns : (procs x : ℕ) (ts s s′ : List ℕ) → x ≡ feed → ts ≡ [] → s ≡ s′ → (x ∷ s ≡ turnsText ts ++ s′) × Turns procs ts
+unfolding turnsText
+no-turns procs x ts s s′ e f g = rw (e, f, g) (refl, (tt, omega arith))
+
+-- a number starts with no line feed
+turns-of-items : (procs : ℕ) (s : List ℕ) (at : ℕ) (us s′ : List ℕ) (at′ : ℕ) → items mostTurns procs [] s at ≡ ok us s′ at′ → turns procs s at ≡ ok us s′ at′
+unfolding turns items number
+turns-of-items procs [] at us s′ at′ e = absurd (not-fault us s′ at′ 1 at e)
+turns-of-items procs (x ∷ s) at us s′ at′ e =
+    by-test (λ (g : Got (List ℕ)). g ≡ ok us s′ at′) (eqb x feed) _ _
+    (λ t. absurd (not-fault us s′ at′ 1 at (subst (λ (y : ℕ). items mostTurns procs [] (y ∷ s) at ≡ ok us s′ at′) (eqb-true x feed t) e)))
+    (λ t. e)
+
+module _ (procs : ℕ) (hp : procs ≤ 10 ^ mostDigits) where
+  turns-reads : (ts : List ℕ) → Turns procs ts → (s : List ℕ) (at : ℕ) → turns procs (turnsText ts ++ s) at ≡ ok ts s (at + length (turnsText ts))
+  unfolding turns turnsText
+  turns-reads [] h s at = refl
+  turns-reads (t ∷ ts) h s at = turns-of-items procs _ at (t ∷ ts) s _ (items-reads mostTurns procs [] t ts hp (h .0) (h .1) s at)
+
+  turns-was : (s : List ℕ) (at : ℕ) (ts s′ : List ℕ) (at′ : ℕ) → turns procs s at ≡ ok ts s′ at′ → (s ≡ turnsText ts ++ s′) × Turns procs ts
+  unfolding turns turnsText
+  turns-was [] at ts s′ at′ e = absurd (not-fault ts s′ at′ 1 at e)
+  turns-was (x ∷ s) at ts s′ at′ e =
+      by-test (λ (g : Got (List ℕ)). g ≡ ok ts s′ at′ → (x ∷ s ≡ turnsText ts ++ s′) × Turns procs ts) (eqb x feed) _ _
+      (λ t q. no-turns procs x ts s s′ (eqb-true x feed t) (cc) (cc))
+      (λ t q. from-items procs ts (x ∷ s) s′ (items-was mostTurns procs [] (x ∷ s) at ts s′ at′ q))
+      e
+
+  turns-refuses : (s : List ℕ) (at n p : ℕ) → turns procs s at ≡ fault n p → 0 < n
+  unfolding turns
+  turns-refuses [] at n p e = same-number 1 at n p e (omega arith)
+  turns-refuses (x ∷ s) at n p e =
+      pick-refuses (eqb x feed) _ _ n p e (λ q. absurd (not-ok [] s (at + 1) n p q)) (λ q. items-refuses mostTurns procs [] (x ∷ s) at n p q)
+
+  pub exact-turns : Exact (turns procs) turnsText (Turns procs)
+  exact-turns = record { reads = turns-reads; was = turns-was; refuses = turns-refuses }
