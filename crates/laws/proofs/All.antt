@@ -5,12 +5,12 @@ use Rattle.rules.proofs.Counts.{within-budget}
 use Rattle.laws.specs.Laws.{Laws}
 use Rattle.laws.proofs.Beginnings as beginnings
 use Rattle.laws.proofs.Totals.{total-counted, total-summed}
-use Rattle.laws.proofs.Courses as courses
+use Rattle.laws.proofs.Courses.{courses}
 use Rattle.laws.proofs.Lines as lines
 use Rattle.laws.proofs.McsCost.{four, four-reached}
 use Rattle.laws.proofs.Refusals as refusals
 use Rattle.laws.proofs.Files as files
-use Rattle.laws.proofs.Doubling.{doublings-reach, doublings-least}
+use Rattle.laws.proofs.Doubling.{doublings-hold}
 
 pub all-laws : Laws
 all-laws = record {
@@ -24,7 +24,7 @@ all-laws = record {
     counted = total-counted;
     summed = total-summed;
   };
-  courses = record { rounds = courses.rounds; hold-turns = courses.hold-turns; hold-over = courses.hold-over };
+  courses = courses;
   line = record { locks = lines.line; accepted = lines.line-accepted; files = files.line-file };
   distance = lines.distance;
   agree = lines.agree;
@@ -38,7 +38,7 @@ all-laws = record {
   };
   read-write = files.read-write;
   write-read = files.write-read;
-  longest = record { at-most = files.longest; cut = files.cut; in-buffer = files.farthest-below };
+  longest = files.longest;
   reached = record { four = four-reached; longest = files.longest-reached };
-  doublings = record { reach = doublings-reach; least = doublings-least };
+  doublings = doublings-hold;
 }

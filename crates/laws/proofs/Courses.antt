@@ -15,7 +15,7 @@ use Rattle.rules.specs.Course.{Course, Turn, holds, idles, makes, turn, begins,
 use Rattle.rules.specs.Play.{Run, first, next, taking, after, play, whole}
 use Rattle.rules.proofs.Store.{upd-same, upd-other, either, by-test, false-true}
 use Rattle.rules.proofs.Plays.{by-after, by-whole, continued, goes-on, after-taken}
-use Rattle.laws.specs.Laws.{times, GrantOrLeave}
+use Rattle.laws.specs.Laws.{times, GrantOrLeave, Courses}
 
 -- ---- hold turns
 
@@ -101,14 +101,6 @@ module _ (m : Machine) (s : Settings) where
       rw (after-taken m s (whole m s t) i (goes-on m s u (after m s (whole m s t) i) e′)) (left-set i (next m s (whole m s t) i) (whole m s t .course) (starts i (says (next m s (whole m s t) i)) h)) in
       rw (continued m s t (i ∷ u)) (left-after i u (after m s (whole m s t) i) e′ (omega arith) ∙ f)
 
-  pub hold-turns : (t u : List ℕ) (i : ℕ) → GrantOrLeave (said i (says (next m s (whole m s t) i))) → whole m s (t ++ i ∷ u) .stopped ≡ false
-      → times i u < entry (s .hold) i → next m s (whole m s (t ++ i ∷ u)) i ≡ holds
-  hold-turns t u i h e l = is-hold (whole m s (t ++ i ∷ u) .memory) (whole m s (t ++ i ∷ u) .course) i (omega (arith, held t u i h e (omega arith)))
-
-  pub hold-over : (t u : List ℕ) (i : ℕ) → GrantOrLeave (said i (says (next m s (whole m s t) i))) → whole m s (t ++ i ∷ u) .stopped ≡ false
-      → times i u ≡ entry (s .hold) i → next m s (whole m s (t ++ i ∷ u)) i ≢ holds
-  hold-over t u i h e l = no-hold (whole m s (t ++ i ∷ u) .memory) (whole m s (t ++ i ∷ u) .course) i (omega (arith, held t u i h e (omega arith)))
-
   -- ---- rounds
 
   -- who is in a passage has one left to do
@@ -146,8 +138,17 @@ module _ (m : Machine) (s : Settings) where
       go e j (yes d) = rw d (due-step (m .step s x (c .at i) i .then) (c .at) (c .done) i (entry (s .rounds) i) (due _ _ refl refl e (h i)))
       go e j (no d) = due-other (m .step s x (c .at i) i .then) (c .at) (c .done) i j (entry (s .rounds) j) d (h j)
 
-  pub rounds : (t : List ℕ) (i : ℕ) → whole m s t .course .done i ≤ entry (s .rounds) i
+  within-rounds : (t : List ℕ) (i : ℕ) → whole m s t .course .done i ≤ entry (s .rounds) i
   unfolding taking
-  rounds t i =
+  within-rounds t i =
       by-whole m s (λ r. AllDue (r .course)) (λ r j h. by-after m s r j (λ q. AllDue (q .course)) h h (λ l. due-turn (r .memory) (r .course) j h))
       (λ j. (omega arith, inl refl)) t i .0
+
+pub courses : Courses
+courses = record {
+  rounds = within-rounds;
+  hold-turns = λ m s t u i h e l.
+      is-hold m s (whole m s (t ++ i ∷ u) .memory) (whole m s (t ++ i ∷ u) .course) i (omega (arith, held m s t u i h e (omega arith)));
+  hold-over = λ m s t u i h e l.
+      no-hold m s (whole m s (t ++ i ∷ u) .memory) (whole m s (t ++ i ∷ u) .course) i (omega (arith, held m s t u i h e (omega arith)));
+}

@@ -2,12 +2,13 @@
 use mathlib.Core.Path.{_≡_, refl}
 use mathlib.Core.Bool.{Bool, true, false}
 use Prim.Native.Nat.{ℕ, zero, suc, _+_, _*_, _^_, _≤_, _<_}
-use native.Mathlib.Decide.{decLe}
+use native.Mathlib.Decide.{decLt}
 use native.Mathlib.Nat.{pow-suc, one-mul, mul-one, mul-assoc, add-mul}
 use native.Mathlib.Omega.{arith}
 use borrow.Author.Tests.{leb-true, leb-false}
 use lib.Dec.{leb, lit<}
 use Rattle.rules.specs.Dissem.{doubled, doublings}
+use Rattle.laws.specs.Laws.{Doublings}
 
 double : (x y : ℕ) → (x + x) * y ≡ x * (y * 2)
 double x y = omega (arith, add-mul x x y, mul-assoc x y 2)
@@ -38,17 +39,17 @@ below-power : (k : ℕ) → k < 2 ^ k
 below-power zero = lit< tt
 below-power (suc k) = omega (arith, below-power k, pow-suc 2 k)
 
-pub round-below : (p k : ℕ) → k < doublings p → 2 ^ k < p
+round-below : (p k : ℕ) → k < doublings p → 2 ^ k < p
 unfolding doublings
 round-below p k l = rw (one-mul (2 ^ k)) at (before p 1 p k l)
 
-pub doublings-reach : (p : ℕ) → p ≤ 2 ^ doublings p
+last-reaches : (p : ℕ) → p ≤ 2 ^ doublings p
 unfolding doublings
-doublings-reach p = rw (one-mul (2 ^ doubled p 1 p)) at (reached p 1 p (rw (one-mul (2 ^ p)) (omega (arith, below-power p))))
+last-reaches p = rw (one-mul (2 ^ doubled p 1 p)) at (reached p 1 p (rw (one-mul (2 ^ p)) (omega (arith, below-power p))))
 
-pub doublings-least : (p k : ℕ) → p ≤ 2 ^ k → doublings p ≤ k
-doublings-least p k h = go (decLe (doublings p) k)
+pub doublings-hold : Doublings
+doublings-hold = record { reach = λ p. omega (arith, last-reaches p); least = λ p k h. go p k h (decLt k (doublings p)) }
   where
-    go : Dec (doublings p ≤ k) → doublings p ≤ k
-    go (yes l) = l
-    go (no n) = let w = round-below p k (omega arith) in absurd (omega arith)
+    go : (p k : ℕ) → p ≤ 2 ^ k → Dec (k < doublings p) → doublings p ≤ k
+    go p k h (yes l) = absurd (omega (arith, round-below p k l))
+    go p k h (no n) = omega arith

@@ -15,7 +15,7 @@ use Rattle.rules.specs.File.{whole, file, text}
 use Rattle.rules.specs.Calls.{over, Reading, acceptedRead, readingOf, reading, writeRefusal, Writing, writing}
 use Rattle.rules.proofs.Store.{by-test}
 use Rattle.rules.proofs.Accepted.{Accepted, accepted, accepts}
-use Rattle.laws.specs.Laws.{InLine, settingsOf, turnsOf, fileOf, farthest}
+use Rattle.laws.specs.Laws.{InLine, Longest, settingsOf, turnsOf, fileOf, farthest}
 use Rattle.laws.proofs.Lines.{line, lock-run}
 use Rattle.laws.proofs.RoundTrip.{body, written, Full, exact-body, ending, file-was, file-reads, file-refuses}
 use Rattle.laws.proofs.Near.{extend}
@@ -104,9 +104,6 @@ text-most v f =
     let h = near-body .spends (written v ++ []) 0 v [] _ (exact-body .reads v f [] 0) in
     omega (arith, length-append (written v) [])
 
-pub longest : (bytes schedule : List ℕ) → reading bytes schedule .answer .number ≡ 0 → length bytes ≤ longestFile
-longest bytes schedule h = let x = was-read bytes schedule h in omega (arith, ap length (x .as-text), text-most (x .value) (x .full))
-
 pub longest-reached : (bytes : List ℕ) × (length bytes ≡ longestFile) × (reading bytes (replicate mostTurns 0) .answer .number ≡ 0)
 longest-reached = (
   written (fullest, lastTurns),
@@ -126,11 +123,12 @@ file-cut bytes more h = rw (near-body .cuts .same bytes more 0 (omega arith)) (g
     go (ok v (x ∷ left) at) e = refl
     go (fault n p) e = refl
 
-pub cut : (bytes more schedule : List ℕ) → farthest ≤ length bytes → reading (bytes ++ more) schedule ≡ reading bytes schedule
-cut bytes more schedule h = ap (λ (g : Got (Settings × List ℕ)). readingOf g schedule) (file-cut bytes more h)
-
-pub farthest-below : farthest < 65536
-farthest-below = omega arith
+pub longest : Longest
+longest = record {
+  at-most = λ bytes schedule h. let x = was-read bytes schedule h in omega (arith, ap length (x .as-text), text-most (x .value) (x .full));
+  cut = λ bytes more schedule h. ap (λ (g : Got (Settings × List ℕ)). readingOf g schedule) (file-cut bytes more h);
+  in-buffer = omega arith;
+}
 
 -- ---- the waiting line
 
