@@ -46,7 +46,7 @@ spun≤ (to k) f i n h = more f n h
 spun≤ over f i n h = more f n h
 
 module _ (m : Machine) (s : Settings) where
-  grown : (n i at : ℕ) (c : Course) (t : Tally) (w : Turn (m .State)) → Table≤ n c t → Table≤ (n + 1) (course.course s i w c) (tally i at w t)
+  pub grown : (n i at : ℕ) (c : Course) (t : Tally) (w : Turn (m .State)) → Table≤ n c t → Table≤ (n + 1) (course.course s i w c) (tally i at w t)
   grown n i at c t holds b = record {
     done = more _ n (b .done);
     far = more _ n (b .far);

@@ -4,3 +4,5 @@ pub mod Steps
 pub mod Plays
 pub mod Counts
 pub mod Views
+pub mod Turned
+pub mod Going

@@ -1,0 +1,3 @@
+pub mod Courses
+pub mod Turning
+pub mod TicketTurns

@@ -1,0 +1,4 @@
+// The machines, one turn at a time, and the run over a schedule.
+mod course;
+mod made;
+mod ticket;

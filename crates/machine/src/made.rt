@@ -1,0 +1,101 @@
+// What is told of a turn to those who count.
+ghost use mathlib.Core.Path.{_≡_};
+ghost use mathlib.Core.Bool.{true, false};
+
+// owner: whose variable was touched, the turn's own processor where none was. first, second: the kinds of its events, 0 for none.
+// began: a passage began. done: the passage is done.
+pub(crate) struct Made {
+    pub(crate) owner: u16,
+    pub(crate) first: u16,
+    pub(crate) second: u16,
+    pub(crate) began: bool,
+    pub(crate) done: bool,
+    pub(crate) spin: bool,
+    pub(crate) idle: bool,
+}
+
+// The kinds of events.
+pub(crate) const JOIN: u16 = 1;
+
+pub(crate) const GRANT: u16 = 2;
+
+pub(crate) const RELEASE: u16 = 3;
+
+pub(crate) const ARRIVE: u16 = 4;
+
+pub(crate) const LEAVE: u16 = 5;
+
+// A turn without access, of processor w: a hold turn, or an idle one.
+pub(crate) fn none(w: u16, idle: bool) -> Made
+    ensures { λ r. ⌜ r ≡ record { owner = w; first = 0; second = 0; began = false; done = false; spin = false; idle = idle } ⌝ }
+{
+    Made {
+        owner: w,
+        first: 0,
+        second: 0,
+        began: false,
+        done: false,
+        spin: false,
+        idle,
+    }
+}
+
+// The first access of a passage.
+pub(crate) fn first(owner: u16, kind: u16) -> Made
+    ensures { λ r. ⌜ r ≡ record { owner = owner; first = kind; second = 0; began = true; done = false; spin = false; idle = false } ⌝ }
+{
+    Made {
+        owner,
+        first: kind,
+        second: 0,
+        began: true,
+        done: false,
+        spin: false,
+        idle: false,
+    }
+}
+
+// A later one.
+pub(crate) fn later(owner: u16, kind: u16, second: u16) -> Made
+    ensures { λ r. ⌜ r ≡ record { owner = owner; first = kind; second = second; began = false; done = false; spin = false; idle = false } ⌝ }
+{
+    Made {
+        owner,
+        first: kind,
+        second,
+        began: false,
+        done: false,
+        spin: false,
+        idle: false,
+    }
+}
+
+// A read that has to be made again.
+pub(crate) fn spin(owner: u16) -> Made
+    ensures { λ r. ⌜ r ≡ record { owner = owner; first = 0; second = 0; began = false; done = false; spin = true; idle = false } ⌝ }
+{
+    Made {
+        owner,
+        first: 0,
+        second: 0,
+        began: false,
+        done: false,
+        spin: true,
+        idle: false,
+    }
+}
+
+// The last access of a passage.
+pub(crate) fn last(owner: u16, kind: u16) -> Made
+    ensures { λ r. ⌜ r ≡ record { owner = owner; first = kind; second = 0; began = false; done = true; spin = false; idle = false } ⌝ }
+{
+    Made {
+        owner,
+        first: kind,
+        second: 0,
+        began: false,
+        done: true,
+        spin: false,
+        idle: false,
+    }
+}

@@ -1,0 +1,54 @@
+//! What the processors' routines note down as they go: events, passages done,
+//! spins and idle turns.
+
+#[derive(Clone, Copy, Debug, PartialEq, Eq)]
+pub enum Kind {
+    Join,
+    Grant,
+    Release,
+    Arrive,
+    Leave,
+}
+
+#[derive(Clone, Copy, Debug, PartialEq, Eq)]
+pub struct Event {
+    pub kind: Kind,
+    pub processor: u8,
+}
+
+/// The counts of one processor that are not references.
+#[derive(Clone, Copy, Debug, Default, PartialEq, Eq)]
+pub struct Tally {
+    pub done: u32,
+    pub spins: u32,
+    pub idle: u32,
+}
+
+pub struct Notes {
+    pub events: Vec<Event>,
+    pub tallies: Vec<Tally>,
+}
+
+impl Notes {
+    /// No turn notes more than two events.
+    pub fn new(procs: usize, turns: usize) -> Notes {
+        Notes { events: Vec::with_capacity(2 * turns), tallies: vec![Tally::default(); procs] }
+    }
+
+    pub fn event(&mut self, kind: Kind, processor: usize) {
+        self.events.push(Event { kind, processor: processor as u8 });
+    }
+
+    pub fn passage_done(&mut self, processor: usize) {
+        self.tallies[processor].done += 1;
+    }
+
+    /// A read that has to be made again.
+    pub fn spin(&mut self, processor: usize) {
+        self.tallies[processor].spins += 1;
+    }
+
+    pub fn idle(&mut self, processor: usize) {
+        self.tallies[processor].idle += 1;
+    }
+}

@@ -1,0 +1,124 @@
+//! The ticket lock, figure 2, without its pauses.
+
+use crate::memory::{Address, Memory};
+use crate::notes::{Kind, Notes};
+use crate::routine::Routine;
+use crate::settings::{Plan, Settings};
+
+/// `type lock`: the request counter and the release counter.
+pub struct Lock {
+    next_ticket: Address,
+    now_serving: Address,
+}
+
+/// The program points of `acquire_lock` and `release_lock`.
+#[derive(Clone, Copy)]
+enum Point {
+    /// `my_ticket := fetch_and_increment (&L->next_ticket)`
+    TakeTicket,
+    /// `if L->now_serving = my_ticket`, in its loop
+    SpinServing { my_ticket: u16 },
+    /// Between `acquire_lock` and `release_lock`.
+    Hold { left: u16 },
+    /// `L->now_serving := L->now_serving + 1`, in one turn
+    ServeNext,
+    /// All passages are done.
+    Idle,
+}
+
+pub struct Ticket {
+    me: usize,
+    hold: u16,
+    rounds_left: u16,
+    point: Point,
+}
+
+impl Ticket {
+    /// Where the routine stands when no passage is under way.
+    fn outside(&self) -> Point {
+        if self.rounds_left == 0 {
+            Point::Idle
+        } else {
+            Point::TakeTicket
+        }
+    }
+
+    fn spin_serving(
+        &self,
+        my_ticket: u16,
+        lock: &Lock,
+        memory: &mut Memory,
+        notes: &mut Notes,
+    ) -> Point {
+        if memory.read(self.me, lock.now_serving) == my_ticket {
+            notes.event(Kind::Grant, self.me);
+            self.holding(self.hold)
+        } else {
+            notes.spin(self.me);
+            Point::SpinServing { my_ticket }
+        }
+    }
+
+    fn holding(&self, left: u16) -> Point {
+        if left == 0 {
+            Point::ServeNext
+        } else {
+            Point::Hold { left }
+        }
+    }
+
+    fn released(&mut self, notes: &mut Notes) -> Point {
+        notes.event(Kind::Release, self.me);
+        notes.passage_done(self.me);
+        self.rounds_left -= 1;
+        self.outside()
+    }
+}
+
+impl Routine for Ticket {
+    type Shared = Lock;
+
+    fn declare(settings: &Settings, memory: &mut Memory) -> Lock {
+        Lock {
+            next_ticket: memory.place(settings.home, settings.ticket),
+            now_serving: memory.place(settings.home, settings.ticket),
+        }
+    }
+
+    fn new(me: usize, plan: Plan, _lock: &Lock) -> Ticket {
+        let (hold, rounds_left) = (plan.hold, plan.rounds);
+        let mut routine = Ticket { me, hold, rounds_left, point: Point::Idle };
+        routine.point = routine.outside();
+        routine
+    }
+
+    fn touches(&self, lock: &Lock) -> Option<Address> {
+        match self.point {
+            Point::TakeTicket => Some(lock.next_ticket),
+            Point::SpinServing { .. } | Point::ServeNext => Some(lock.now_serving),
+            Point::Hold { .. } | Point::Idle => None,
+        }
+    }
+
+    fn turn(&mut self, lock: &Lock, memory: &mut Memory, notes: &mut Notes) {
+        let me = self.me;
+        self.point = match self.point {
+            Point::TakeTicket => {
+                memory.begin_passage(me);
+                let my_ticket = memory.fetch_and_increment(me, lock.next_ticket);
+                notes.event(Kind::Join, me);
+                Point::SpinServing { my_ticket }
+            }
+            Point::SpinServing { my_ticket } => self.spin_serving(my_ticket, lock, memory, notes),
+            Point::Hold { left } => self.holding(left - 1),
+            Point::ServeNext => {
+                memory.fetch_and_increment(me, lock.now_serving);
+                self.released(notes)
+            }
+            Point::Idle => {
+                notes.idle(me);
+                Point::Idle
+            }
+        };
+    }
+}
