@@ -4,3 +4,4 @@ pub mod Steps
 pub mod Plays
 pub mod Counts
 pub mod Views
+pub mod Known
