@@ -7,23 +7,35 @@ ghost use Rattle.settings.specs.View.{settingsOf, Checked};
 
 // The bounds of rules/specs/Bounds.
 pub const MOST_PROCS: usize = 64;
+
 pub const MOST_TICKET: u32 = 65535;
+
 pub const MOST_BUDGET: u32 = 16384;
+
 pub const MOST_ROUNDS: u16 = 1000;
+
 pub const MOST_HOLD: u16 = 255;
+
 pub const MOST_TURNS: usize = 16384;
 
 // The machines' numbers.
 pub const TICKET: u16 = 1;
+
 pub const MCS: u16 = 2;
+
 pub const CENTRAL: u16 = 3;
+
 pub const DISSEM: u16 = 4;
 
 // The numbers of refusal.
 pub const ACCEPTED: u8 = 0;
+
 pub const UNKNOWN: u8 = 2;
+
 pub const OUTSIDE: u8 = 3;
+
 pub const STRAY: u8 = 4;
+
 pub const TOO_MANY: u8 = 5;
 
 // The types are wider than the bounds, so that every refusal can be given.
@@ -40,7 +52,10 @@ pub struct Settings {
 fn known(algo: u16) -> bool
     ensures { λ r. ⌜ r ≡ machines.known (numbered algo) ⌝ }
 {
-    algo == TICKET || algo == MCS || algo == CENTRAL || algo == DISSEM
+    match algo {
+        TICKET | MCS | CENTRAL | DISSEM => true,
+        _ => false,
+    }
 }
 
 // Whether each entry of a row is at most the bound below procs, and zero from procs on.
@@ -55,7 +70,7 @@ fn in_row(row: [u16; MOST_PROCS], procs: u16, most: u16) -> bool
                 return false;
             }
         } else {
-            if row[i] > 0 {
+            if row[i] != 0 {
                 return false;
             }
         }
@@ -67,15 +82,27 @@ fn in_row(row: [u16; MOST_PROCS], procs: u16, most: u16) -> bool
 fn in_range(s: Settings) -> bool
     ensures { λ r. ⌜ r ≡ inRange (settingsOf s) ⌝ }
 {
+    if s.procs < 1 {
+        return false;
+    }
+    if (s.procs as usize) > MOST_PROCS {
+        return false;
+    }
+    if s.home >= s.procs {
+        return false;
+    }
+    if s.ticket > MOST_TICKET {
+        return false;
+    }
+    if s.budget > MOST_BUDGET {
+        return false;
+    }
     let rounds = s.rounds;
+    if !in_row(rounds, s.procs, MOST_ROUNDS) {
+        return false;
+    }
     let hold = s.hold;
-    1 <= s.procs
-        && (s.procs as usize) <= MOST_PROCS
-        && s.home < s.procs
-        && s.ticket <= MOST_TICKET
-        && s.budget <= MOST_BUDGET
-        && in_row(rounds, s.procs, MOST_ROUNDS)
-        && in_row(hold, s.procs, MOST_HOLD)
+    in_row(hold, s.procs, MOST_HOLD)
 }
 
 // Whether every turn names a processor below procs.

@@ -1,46 +1,27 @@
+-- `settings::all_below` meets its contract. The invariant: the test of what is left is the test of all. Assumes nothing.
 use borrow.Author.Needs.{needs}
+use mathlib.Core.Path.{_≡_}
+use Prim.Native.Nat.{_-_, _≤_}
+use lib.ListN.{length, drop}
+use Rattle.rules.specs.Calls.{allBelow}
+use Rattle.settings.proofs.Checks.{turns-over, turn-stray, turn-below}
 use Rattle.settings.proofs.all_below.Statement.{statement}
 use Rattle.settings.proofs.all_below.Tie as tie
-use Rattle.settings.proofs.all_below.Reads as reads
-use Rattle.settings.proofs.all_below.Lts as lts
 
 abbrev Inv-loop : tie.InvT-loop
-Inv-loop procs schedule k₀ k = ?
+Inv-loop procs schedule k₀ k = (k ≤ length schedule) × (allBelow procs schedule ≡ allBelow procs (drop k schedule))
 
 abbrev μ-loop : tie.MeasureT-loop
-μ-loop procs schedule k₀ k = ?
+μ-loop procs schedule k₀ k = length schedule - k
 
--- src/lib.rt:86:5
-loop-holds : tie.Need-loop-holds Inv-loop μ-loop
-loop-holds c = search needs
-
--- src/lib.rt:87:12
-mul-if1 : tie.Need-mul-if1 Inv-loop μ-loop
-mul-if1 c = search needs
-
--- src/lib.rt:87:12
-shared-slice-read-if1 : tie.Need-shared-slice-read-if1 Inv-loop μ-loop
-shared-slice-read-if1 c = search needs
-
--- src/lib.rt:88:13
 returns : tie.Need-returns Inv-loop μ-loop
-returns c = search needs
+returns c = search turn-stray
 
--- src/lib.rt:90:9
-add-k : tie.Need-add-k Inv-loop μ-loop
-add-k c = search needs
-
--- src/lib.rt:86:5
-loop-less : tie.Need-loop-less Inv-loop μ-loop
-loop-less c = search needs
-
--- src/lib.rt:86:5
 loop-again : tie.Need-loop-again Inv-loop μ-loop
-loop-again c = search needs
+loop-again c = (search needs, search turn-below)
 
--- src/lib.rt:82:1
 returns-2 : tie.Need-returns-2 Inv-loop μ-loop
-returns-2 c = search needs
+returns-2 c = search turns-over
 
 pub all-below-spec : {M : Type 1} → statement M
 all-below-spec =
@@ -48,11 +29,8 @@ all-below-spec =
     (tie.spec
     Inv-loop
     μ-loop
-    loop-holds
-    mul-if1
-    shared-slice-read-if1
+    (λ c. search needs) (λ c. search needs) (λ c. search needs)
     returns
-    add-k
-    loop-less
+    (λ c. search needs) (λ c. search needs)
     loop-again
     returns-2)

@@ -1,58 +1,34 @@
+-- `settings::in_row` meets its contract. The invariant: the test of what is left is the test of all. Assumes nothing.
 use borrow.Author.Needs.{needs}
+use mathlib.Core.Logic.{⊎-elim}
+use mathlib.Core.Path.{_≡_}
+use Prim.Native.Nat.{_-_, _≤_}
+use lib.ListN.{length, drop}
+use Rattle.rules.specs.Bounds.{mostProcs}
+use Rattle.rules.specs.Calls.{inRow}
+use Rattle.settings.proofs.Checks.{row-over, entry-high, entry-past, entry-fits, entry-zero}
 use Rattle.settings.proofs.in_row.Statement.{statement}
 use Rattle.settings.proofs.in_row.Tie as tie
-use Rattle.settings.proofs.in_row.Reads as reads
-use Rattle.settings.proofs.in_row.Lts as lts
 
 abbrev Inv-loop : tie.InvT-loop
-Inv-loop procs most row limit i₀ i = ?
+Inv-loop procs most row limit i₀ i =
+    (i ≤ mostProcs) × (length row ≡ mostProcs) × (limit ≡ procs) × (inRow procs most 0 row ≡ inRow procs most i (drop i row))
 
 abbrev μ-loop : tie.MeasureT-loop
-μ-loop procs most row limit i₀ i = ?
+μ-loop procs most row limit i₀ i = mostProcs - i
 
--- src/lib.rt:52:5
-loop-holds : tie.Need-loop-holds Inv-loop μ-loop
-loop-holds c = search needs
-
--- src/lib.rt:54:16
-mul-if2 : tie.Need-mul-if2 Inv-loop μ-loop
-mul-if2 c = search needs
-
--- src/lib.rt:54:16
-array-read-if2 : tie.Need-array-read-if2 Inv-loop μ-loop
-array-read-if2 c = search needs
-
--- src/lib.rt:55:17
 returns : tie.Need-returns Inv-loop μ-loop
-returns c = search needs
+returns c = search (entry-high, needs)
 
--- src/lib.rt:58:16
-mul-if3 : tie.Need-mul-if3 Inv-loop μ-loop
-mul-if3 c = search needs
-
--- src/lib.rt:58:16
-array-read-if3 : tie.Need-array-read-if3 Inv-loop μ-loop
-array-read-if3 c = search needs
-
--- src/lib.rt:59:17
 returns-2 : tie.Need-returns-2 Inv-loop μ-loop
-returns-2 c = search needs
+returns-2 c = search (entry-past, needs)
 
--- src/lib.rt:62:9
-add-i : tie.Need-add-i Inv-loop μ-loop
-add-i c = search needs
-
--- src/lib.rt:52:5
-loop-less : tie.Need-loop-less Inv-loop μ-loop
-loop-less c = search needs
-
--- src/lib.rt:52:5
 loop-again : tie.Need-loop-again Inv-loop μ-loop
-loop-again c = search needs
+loop-again c =
+    (search needs, search needs, search needs, ⊎-elim (λ w. search (entry-fits, needs)) (λ w. search (entry-zero, needs)) (c .if1 .came))
 
--- src/lib.rt:47:1
 returns-3 : tie.Need-returns-3 Inv-loop μ-loop
-returns-3 c = search needs
+returns-3 c = search (row-over, needs)
 
 pub in-row-spec : {M : Type 1} → statement M
 in-row-spec =
@@ -60,14 +36,10 @@ in-row-spec =
     (tie.spec
     Inv-loop
     μ-loop
-    loop-holds
-    mul-if2
-    array-read-if2
+    (λ c. search needs) (λ c. search needs) (λ c. search needs)
     returns
-    mul-if3
-    array-read-if3
+    (λ c. search needs) (λ c. search needs)
     returns-2
-    add-i
-    loop-less
+    (λ c. search needs) (λ c. search needs)
     loop-again
     returns-3)

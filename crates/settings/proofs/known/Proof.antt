@@ -1,16 +1,16 @@
-use borrow.Author.Needs.{needs}
+-- `settings::known` meets its contract. Assumes nothing.
+use Rattle.settings.proofs.Checks.{algo-known, algo-low, algo-high}
 use Rattle.settings.proofs.known.Statement.{statement}
 use Rattle.settings.proofs.known.Tie as tie
-use Rattle.settings.proofs.known.Reads as reads
-use Rattle.settings.proofs.known.Lts as lts
 
--- src/lib.rt:40:1
 returns : tie.Need-returns
-returns c = search needs
+returns c = search algo-known
 
--- src/lib.rt:40:1
 returns-2 : tie.Need-returns-2
-returns-2 c = search needs
+returns-2 c = search algo-low
+
+returns-3 : tie.Need-returns-3
+returns-3 c = search algo-high
 
 pub known-spec : {M : Type 1} → statement M
-known-spec = tie.close (tie.spec returns returns-2)
+known-spec = tie.close (tie.spec returns returns-2 returns-3)
