@@ -1,7 +1,6 @@
 // The settings record, and the one check of settings and schedule that write and run share.
 ghost use mathlib.Core.Path.{_≡_};
-ghost use Rattle.rules.specs.Machines.{numbered};
-ghost use Rattle.rules.specs.Machines as machines;
+ghost use Rattle.rules.specs.Machines.{numbered, known};
 ghost use Rattle.rules.specs.Calls.{inRow, inRange, allBelow};
 ghost use Rattle.settings.specs.View.{settingsOf, Checked};
 
@@ -50,7 +49,7 @@ pub struct Settings {
 }
 
 fn known(algo: u16) -> bool
-    ensures { λ r. ⌜ r ≡ machines.known (numbered algo) ⌝ }
+    ensures { λ r. ⌜ r ≡ known (numbered algo) ⌝ }
 {
     match algo {
         TICKET | MCS | CENTRAL | DISSEM => true,
