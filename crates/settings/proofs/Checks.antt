@@ -1,11 +1,15 @@
--- One law for each way out of the checks. Assumes nothing.
+-- One law for each way out of the checks, and for each function the set of its laws. Assumes nothing.
+-- above, le-of-lt, lt-trans and lit< are in a set so that a test that says more than a law asks serves it too.
 use mathlib.Core.Path.{_≡_, refl, sym, _∙_}
 use mathlib.Core.Bool.{Bool, true, false, _&&_}
 use mathlib.Core.List.{List, _∷_}
 use Prim.Native.Nat.{ℕ, _+_, _≤_, _<_}
 use native.Mathlib.Numerals.{add-one}
+use native.Mathlib.Nat.{le-of-lt, lt-trans}
 use native.Mathlib.Omega.{arith}
-use borrow.Author.Tests.{eq-eqb, ne-eqb, le-leb, lt-leb, lt-ltb, le-ltb}
+use borrow.Author.Needs.{needs}
+use borrow.Author.Tests.{eq-eqb, ne-eqb, le-leb, lt-leb, lt-ltb, le-ltb, not-true, not-false}
+use lib.Dec.{lit<}
 use lib.ListN.{length, getD, drop, drop-of-length-le}
 use lib.Seq.{drop-cons}
 use Rattle.rules.specs.Bounds.{mostProcs, mostTicket, mostBudget, mostRounds, mostHold, mostTurns}
@@ -15,6 +19,10 @@ use Rattle.rules.specs.Calls.{inRow, inRange, allBelow, refusal}
 use Rattle.rules.proofs.Known.{known-number, unknown-number}
 use Rattle.settings.specs.View.{settingsOf, Checked}
 use Rattle.settings.specs.declared.Settings.{Settings}
+
+-- a number above another is not zero
+pub above : (m x : ℕ) → m < x → x ≡ 0 → ⊥
+above m x h e = omega arith
 
 -- ---- a machine's number
 
@@ -28,9 +36,11 @@ module _ (n : ℕ) where
   pub algo-high : 5 ≤ n → false ≡ known (numbered n)
   algo-high h = sym (unknown-number n (λ e. omega arith) (λ e. omega arith) (λ e. omega arith) (λ e. omega arith))
 
+pub ruleset algos = (algo-known, algo-low, algo-high)
+
 -- what is left of a row or a schedule that is not over
 next : (l : List ℕ) (i : ℕ) → i < length l → drop i l ≡ getD l i 0 ∷ drop (i + 1) l
-next l i h = rw (add-one) (drop-cons l i 0 h)
+next l i h = rw add-one (drop-cons l i 0 h)
 
 -- ---- a row: from entry i on its test is g
 
@@ -56,6 +66,8 @@ module _ (procs most i : ℕ) (row : List ℕ) (g : Bool) (e : g ≡ inRow procs
     unfolding inRow
     entry-zero l k = rw (e, next row i h, le-ltb _ _ l, eq-eqb _ _ k)
 
+pub ruleset rows = (row-over, entry-high, entry-past, entry-fits, entry-zero, above, needs)
+
 -- ---- a schedule: from turn k on its test is g
 
 module _ (procs k : ℕ) (t : List ℕ) (g : Bool) (e : g ≡ allBelow procs (drop k t)) where
@@ -71,6 +83,8 @@ module _ (procs k : ℕ) (t : List ℕ) (g : Bool) (e : g ≡ allBelow procs (dr
     pub turn-below : getD t k 0 < procs → g ≡ allBelow procs (drop (k + 1) t)
     unfolding allBelow
     turn-below l = rw (e, next t k h, lt-ltb _ _ l)
+
+pub ruleset turns = (turns-over, turn-stray, turn-below, needs)
 
 -- ---- the settings: one test that fails is enough
 
@@ -114,6 +128,8 @@ module _ (s : rules.Settings) where
   by-hold a b c d e r f g h i =
       rw (le-leb 1 _ a, le-leb _ _ b, lt-ltb _ _ c, le-leb _ _ d, le-leb _ _ e, sym f ∙ g, ← i, and-true)
 
+pub ruleset ranges = (procs-low, procs-high, home-high, ticket-high, budget-high, rounds-wrong, by-hold, not-true, not-false, le-of-lt)
+
 -- ---- the number of refusal
 
 module _ (s : Settings) (t : List ℕ) where
@@ -139,3 +155,5 @@ module _ (s : Settings) (t : List ℕ) where
         pub by-0 : b ≡ true → Checked s t 0
         unfolding refusal
         by-0 f = record { number = rw (sym ek ∙ fk, sym er ∙ fr, le-leb _ _ few, sym eb ∙ f) }
+
+pub ruleset numbers = (by-2, by-3, by-5, by-4, by-0, not-true, not-false, lt-trans, lit<)

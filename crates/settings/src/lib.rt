@@ -4,7 +4,9 @@ ghost use Rattle.rules.specs.Machines.{numbered, known};
 ghost use Rattle.rules.specs.Calls.{inRow, inRange, allBelow};
 ghost use Rattle.settings.specs.View.{settingsOf, Checked};
 
-// The bounds of rules/specs/Bounds.
+// The bounds of document 01, as in rules/specs/Bounds.
+pub const LEAST_PROCS: u16 = 1;
+
 pub const MOST_PROCS: usize = 64;
 
 pub const MOST_TICKET: u32 = 65535;
@@ -48,6 +50,7 @@ pub struct Settings {
     pub hold: [u16; MOST_PROCS],
 }
 
+// Whether there is a machine of this number.
 fn known(algo: u16) -> bool
     ensures { λ r. ⌜ r ≡ known (numbered algo) ⌝ }
 {
@@ -78,10 +81,11 @@ fn in_row(row: [u16; MOST_PROCS], procs: u16, most: u16) -> bool
     true
 }
 
+// Whether every setting but algo is within its bounds.
 fn in_range(s: Settings) -> bool
     ensures { λ r. ⌜ r ≡ inRange (settingsOf s) ⌝ }
 {
-    if s.procs < 1 {
+    if s.procs < LEAST_PROCS {
         return false;
     }
     if (s.procs as usize) > MOST_PROCS {

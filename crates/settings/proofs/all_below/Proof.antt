@@ -4,7 +4,7 @@ use mathlib.Core.Path.{_≡_}
 use Prim.Native.Nat.{_-_, _≤_}
 use lib.ListN.{length, drop}
 use Rattle.rules.specs.Calls.{allBelow}
-use Rattle.settings.proofs.Checks.{turns-over, turn-stray, turn-below}
+use Rattle.settings.proofs.Checks.{turns}
 use Rattle.settings.proofs.all_below.Statement.{statement}
 use Rattle.settings.proofs.all_below.Tie as tie
 
@@ -15,13 +15,13 @@ abbrev μ-loop : tie.MeasureT-loop
 μ-loop procs schedule k₀ k = length schedule - k
 
 returns : tie.Need-returns Inv-loop μ-loop
-returns c = search turn-stray
+returns c = search turns
 
 loop-again : tie.Need-loop-again Inv-loop μ-loop
-loop-again c = (search needs, search turn-below)
+loop-again c = (search needs, search turns)
 
 returns-2 : tie.Need-returns-2 Inv-loop μ-loop
-returns-2 c = search turns-over
+returns-2 c = search turns
 
 pub all-below-spec : {M : Type 1} → statement M
 all-below-spec =

@@ -6,7 +6,7 @@ use Prim.Native.Nat.{_-_, _≤_}
 use lib.ListN.{length, drop}
 use Rattle.rules.specs.Bounds.{mostProcs}
 use Rattle.rules.specs.Calls.{inRow}
-use Rattle.settings.proofs.Checks.{row-over, entry-high, entry-past, entry-fits, entry-zero}
+use Rattle.settings.proofs.Checks.{rows}
 use Rattle.settings.proofs.in_row.Statement.{statement}
 use Rattle.settings.proofs.in_row.Tie as tie
 
@@ -18,17 +18,17 @@ abbrev μ-loop : tie.MeasureT-loop
 μ-loop procs most row limit i₀ i = mostProcs - i
 
 returns : tie.Need-returns Inv-loop μ-loop
-returns c = search (entry-high, needs)
+returns c = search rows
 
 returns-2 : tie.Need-returns-2 Inv-loop μ-loop
-returns-2 c = search (entry-past, needs)
+returns-2 c = search rows
 
 loop-again : tie.Need-loop-again Inv-loop μ-loop
 loop-again c =
-    (search needs, search needs, search needs, ⊎-elim (λ w. search (entry-fits, needs)) (λ w. search (entry-zero, needs)) (c .if1 .came))
+    (search needs, search needs, search needs, ⊎-elim (λ w. search rows) (λ w. search rows) (c .if1 .came))
 
 returns-3 : tie.Need-returns-3 Inv-loop μ-loop
-returns-3 c = search (row-over, needs)
+returns-3 c = search rows
 
 pub in-row-spec : {M : Type 1} → statement M
 in-row-spec =
