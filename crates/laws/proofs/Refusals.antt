@@ -4,9 +4,9 @@ use mathlib.Core.Logic.{_≢_, _⊎_, inl, inr}
 use mathlib.Core.Bool.{Bool, true, false, _&&_}
 use mathlib.Core.List.{List, [], _∷_, _++_}
 use Prim.Native.Nat.{ℕ, zero, suc, _+_, _*_, _≤_, _<_}
-use native.Mathlib.Decide.{ℕ-discrete, decLt, decLe}
+use native.Mathlib.Decide.{decLt}
 use native.Mathlib.Omega.{arith}
-use borrow.Author.Tests.{leb-true, leb-false, ltb-true, ltb-false, eqb-true, eqb-false, ne-eqb}
+use borrow.Author.Tests.{leb-true, leb-false, ltb-true, ltb-false, eqb-true, eqb-false}
 use lib.Dec.{eqb, leb, ltb}
 use lib.ListN.{length}
 use Rattle.rules.specs.Memory.{pick}
@@ -19,6 +19,7 @@ use Rattle.rules.specs.File.{file, text}
 use Rattle.rules.specs.Calls.{all, inRow, inRange, allBelow, refusal, acceptedRead, refusedRead, readingOf, reading, acceptedWrite, refusedWrite, writeRefusal, writing, Record, acceptedRun, refusedRun, runRefusal, Running, running}
 use Rattle.rules.proofs.Store.{by-test, both, all-true, false-true, zero-suc}
 use Rattle.rules.proofs.Accepted.{Row, row-holds, Below, below, tests}
+use Rattle.rules.proofs.Known.{known-number, unknown-number}
 use Rattle.laws.specs.Laws.{Unknown, Outside, procs-low, procs-high, home-high, ticket-high, budget-high, rounds-high, hold-high, rounds-past, hold-past, TooMany, Stray, First, gives-0, gives-2, gives-3, gives-4, gives-5, gives-6}
 
 -- a test that holds exactly where a refusal does not apply
@@ -41,19 +42,6 @@ first-of (not p) (not q) (not r) (not u) (so v) = search gives-6
 first-of (not p) (not q) (not r) (not u) (not v) = search gives-0
 
 -- ---- 2
-
-known-number : (n : ℕ) → 1 ≤ n → n ≤ 4 → known (numbered n) ≡ true
-known-number n l h = go (ℕ-discrete n 1) (ℕ-discrete n 2) (ℕ-discrete n 3) (ℕ-discrete n 4)
-  where
-    go : Dec (n ≡ 1) → Dec (n ≡ 2) → Dec (n ≡ 3) → Dec (n ≡ 4) → known (numbered n) ≡ true
-    go (yes e) b c d = rw e
-    go (no a) (yes e) c d = rw e
-    go (no a) (no b) (yes e) d = rw e
-    go (no a) (no b) (no c) (yes e) = rw e
-    go (no a) (no b) (no c) (no d) = absurd (omega arith)
-
-unknown-number : (n : ℕ) → n ≢ 1 → n ≢ 2 → n ≢ 3 → n ≢ 4 → known (numbered n) ≡ false
-unknown-number n a b c d = rw (ne-eqb n 1 a, ne-eqb n 2 b, ne-eqb n 3 c, ne-eqb n 4 d)
 
 settles-2 : (s : Settings) → Settled (Unknown s) (known (numbered (s .algo)))
 settles-2 s = settled (Unknown s) _ named nameless

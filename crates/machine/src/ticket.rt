@@ -6,108 +6,117 @@ use crate::made::Made;
 ghost use mathlib.Core.Path.{_≡_};
 ghost use Prim.Native.Nat.{_<_, _+_, _%_};
 ghost use lib.ListN.{getD};
+ghost use Rattle.rules.specs.Memory.{upd};
 ghost use Rattle.rules.specs.Bounds.{mostTicket};
-ghost use Rattle.rules.specs.Ticket.{machine};
+ghost use Rattle.rules.specs.Ticket.{machine, up};
 ghost use Rattle.machine.specs.View.{courseOf, toldOf, Starts, Turns};
-ghost use Rattle.machine.specs.TicketView.{ticketOf};
+ghost use Rattle.machine.specs.TicketView.{lockOf};
 
-pub(crate) struct Ticket {
+// Both counters, and each processor's own ticket.
+pub(crate) struct Lock {
     mine: [u16; 64],
     request: u16,
     release: u16,
+}
+
+pub(crate) struct Ticket {
+    lock: Lock,
     course: Course,
     pub(crate) made: Made,
 }
 
-// After 65535 comes 0.
-fn up(n: u16) -> u16
-    ensures { λ r. ⌜ r ≡ (n + 1) % (mostTicket + 1) ⌝ }
-{
-    std::num::wrapping_add_u16(n, 1)
+impl Lock {
+    // Processor i takes the next ticket. After 65535 comes 0.
+    fn asks(self, i: usize) -> Lock
+        requires { ⌜ i < 64 ⌝ }
+        ensures { λ r. ⌜ lockOf r ≡ record { request = up (self .request); release = self .release; mine = upd (lockOf self .mine) i (self .request) } ⌝ }
+    {
+        let request = self.request;
+        let mut mine = self.mine;
+        mine[i] = request;
+        Lock {
+            mine,
+            request: std::num::wrapping_add_u16(request, 1),
+            release: self.release,
+        }
+    }
+
+    // The next ticket is served.
+    fn frees(self) -> Lock
+        ensures { λ r. ⌜ lockOf r ≡ record { request = self .request; release = up (self .release); mine = lockOf self .mine } ⌝ }
+    {
+        let mine = self.mine;
+        Lock {
+            mine,
+            request: self.request,
+            release: std::num::wrapping_add_u16(self.release, 1),
+        }
+    }
 }
 
 impl Ticket {
-    pub(crate) fn start(ticket: u16) -> Ticket
-        ensures { λ r. ⌜ Starts machine (λ s. s .ticket ≡ ticket) (ticketOf r) (courseOf (r .course)) ⌝ }
+    fn of(lock: Lock, course: Course, made: Made) -> Ticket
+        ensures { λ r. ⌜ r ≡ record { lock = lock; course = course; made = made } ⌝ }
     {
-        Ticket {
+        Ticket { lock, course, made }
+    }
+
+    pub(crate) fn start(ticket: u16) -> Ticket
+        ensures { λ r. ⌜ Starts machine (λ s. s .ticket ≡ ticket) (lockOf (r .lock)) (courseOf (r .course)) ⌝ }
+    {
+        let lock = Lock {
             mine: [0; 64],
             request: ticket,
             release: ticket,
-            course: Course::start(),
-            made: made::none(0, false),
-        }
+        };
+        Ticket::of(lock, Course::start(), made::none(0, false))
     }
 
     // Processor w's turn.
     pub(crate) fn turn(self, w: u16, home: u16, rounds: u16, hold: u8) -> Ticket
         requires { ⌜ (w < 64) × (getD (self .course .done) w 0 < 65535) ⌝ }
-        ensures { λ r. ⌜ Turns machine (λ s. s .home ≡ home) w rounds hold (ticketOf self) (courseOf (self .course)) (ticketOf r) (courseOf (r .course)) (toldOf w (r .made)) ⌝ }
+        ensures { λ r. ⌜ Turns machine (λ s. s .home ≡ home) w rounds hold (lockOf (self .lock)) (courseOf (self .course)) (lockOf (r .lock)) (courseOf (r .course)) (toldOf w (r .made)) ⌝ }
     {
         let i = w as usize;
-        let mine = self.mine;
-        let request = self.request;
-        let release = self.release;
+        let lock = self.lock;
         let course = self.course;
         let due = course.due(i, rounds);
         let step = match due {
             Due::Hold => {
-                return Ticket {
-                    mine,
-                    request,
-                    release,
-                    course: course.held(i),
-                    made: made::none(w, false),
-                };
+                return Ticket::of(lock, course.held(i), made::none(w, false));
             }
             Due::Idle => {
-                return Ticket {
-                    mine,
-                    request,
-                    release,
-                    course,
-                    made: made::none(w, true),
-                };
+                return Ticket::of(lock, course, made::none(w, true));
             }
             Due::Step(step) => step,
         };
+        // Every arm returns: the state is then copied nowhere.
         match step {
             1 => {
-                let mut tickets = self.mine;
-                tickets[i] = request;
-                Ticket {
-                    mine: tickets,
-                    request: up(request),
-                    release,
-                    course: course.goes(i, 2),
-                    made: made::first(home, made::JOIN),
-                }
+                return Ticket::of(
+                    lock.asks(i),
+                    course.goes(i, 2),
+                    made::first(home, made::JOIN),
+                );
             }
             2 => {
-                if release == mine[i] {
-                    return Ticket {
-                        mine,
-                        request,
-                        release,
-                        course: course.granted(i, 3, hold),
-                        made: made::later(home, made::GRANT, 0),
-                    };
+                let mine = lock.mine;
+                if lock.release == mine[i] {
+                    return Ticket::of(
+                        lock,
+                        course.granted(i, 3, hold),
+                        made::later(home, made::GRANT, 0),
+                    );
                 }
-                Ticket {
-                    mine,
-                    request,
-                    release,
-                    course,
-                    made: made::spin(home),
-                }
+                return Ticket::of(lock, course, made::spin(home));
             }
-            _ => Ticket {
-                mine,
-                request,
-                release: up(release),
-                course: course.over(i),
-                made: made::last(home, made::RELEASE),
-            },
+            _ => {
+                return Ticket::of(
+                    lock.frees(),
+                    course.over(i),
+                    made::last(home, made::RELEASE),
+                );
+            }
         }
     }
 }

@@ -164,3 +164,19 @@ in-range s t a =
 pub accepts : (s : Settings) (t : List ℕ) (roomy : Bool) → Accepted s t → roomy ≡ true → refusal s t roomy ≡ 0
 unfolding refusal
 accepts s t roomy a e = rw (a .algo, in-range s t a, le-leb _ _ (a .few), all-below _ _ (a .turns-below), e)
+
+-- room is judged last
+pub refusal-room : (s : Settings) (t : List ℕ) (roomy : Bool)
+    → refusal s t roomy ≡ pick (eqb (refusal s t true) 0) (pick roomy 0 6) (refusal s t true)
+unfolding refusal
+refusal-room s t roomy = go (known (numbered (s .algo))) (inRange s) (leb (length t) mostTurns) (allBelow (s .procs) t)
+  where
+    number : Bool → Bool → Bool → Bool → Bool → ℕ
+    number a b c d e = pick a (pick b (pick c (pick d (pick e 0 6) 4) 5) 3) 2
+
+    go : (a b c d : Bool) → number a b c d roomy ≡ pick (eqb (number a b c d true) 0) (pick roomy 0 6) (number a b c d true)
+    go true true true true = refl
+    go true true true false = refl
+    go true true false d = refl
+    go true false c d = refl
+    go false b c d = refl

@@ -1,5 +1,6 @@
 pub mod Store
 pub mod Accepted
+pub mod Known
 pub mod Steps
 pub mod Plays
 pub mod Counts

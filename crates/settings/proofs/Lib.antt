@@ -1,0 +1,2 @@
+mod Checks
+pub mod Outcome
