@@ -1,2 +1,4 @@
 pub mod View
+pub mod CountView
+pub mod PlayView
 pub mod TicketView

@@ -1,4 +1,7 @@
 // The machines, one turn at a time, and the run over a schedule.
+mod counts;
 mod course;
+mod loops;
 mod made;
+mod played;
 mod ticket;

@@ -6,8 +6,8 @@ ghost use mathlib.Core.Bool.{true, false};
 // began: a passage began. done: the passage is done.
 pub(crate) struct Made {
     pub(crate) owner: u16,
-    pub(crate) first: u16,
-    pub(crate) second: u16,
+    pub(crate) first: u8,
+    pub(crate) second: u8,
     pub(crate) began: bool,
     pub(crate) done: bool,
     pub(crate) spin: bool,
@@ -15,15 +15,15 @@ pub(crate) struct Made {
 }
 
 // The kinds of events.
-pub(crate) const JOIN: u16 = 1;
+pub(crate) const JOIN: u8 = 1;
 
-pub(crate) const GRANT: u16 = 2;
+pub(crate) const GRANT: u8 = 2;
 
-pub(crate) const RELEASE: u16 = 3;
+pub(crate) const RELEASE: u8 = 3;
 
-pub(crate) const ARRIVE: u16 = 4;
+pub(crate) const ARRIVE: u8 = 4;
 
-pub(crate) const LEAVE: u16 = 5;
+pub(crate) const LEAVE: u8 = 5;
 
 // A turn without access, of processor w: a hold turn, or an idle one.
 pub(crate) fn none(w: u16, idle: bool) -> Made
@@ -41,7 +41,7 @@ pub(crate) fn none(w: u16, idle: bool) -> Made
 }
 
 // The first access of a passage.
-pub(crate) fn first(owner: u16, kind: u16) -> Made
+pub(crate) fn first(owner: u16, kind: u8) -> Made
     ensures { λ r. ⌜ r ≡ record { owner = owner; first = kind; second = 0; began = true; done = false; spin = false; idle = false } ⌝ }
 {
     Made {
@@ -56,7 +56,7 @@ pub(crate) fn first(owner: u16, kind: u16) -> Made
 }
 
 // A later one.
-pub(crate) fn later(owner: u16, kind: u16, second: u16) -> Made
+pub(crate) fn later(owner: u16, kind: u8, second: u8) -> Made
     ensures { λ r. ⌜ r ≡ record { owner = owner; first = kind; second = second; began = false; done = false; spin = false; idle = false } ⌝ }
 {
     Made {
@@ -86,7 +86,7 @@ pub(crate) fn spin(owner: u16) -> Made
 }
 
 // The last access of a passage.
-pub(crate) fn last(owner: u16, kind: u16) -> Made
+pub(crate) fn last(owner: u16, kind: u8) -> Made
     ensures { λ r. ⌜ r ≡ record { owner = owner; first = kind; second = 0; began = false; done = true; spin = false; idle = false } ⌝ }
 {
     Made {

@@ -146,7 +146,7 @@ counted i d t =
 kept : (f : ℕ → ℕ) (i : ℕ) → f ≡ upd f i (f i + 0)
 kept f i = sym (same-upd f i (f i + 0) (omega arith))
 
-same-tally : (a b : Tally) → a .far ≡ b .far → a .most ≡ b .most → a .here ≡ b .here → a .spins ≡ b .spins → a .idle ≡ b .idle → a .total ≡ b .total → a ≡ b
+pub same-tally : (a b : Tally) → a .far ≡ b .far → a .most ≡ b .most → a .here ≡ b .here → a .spins ≡ b .spins → a .idle ≡ b .idle → a .total ≡ b .total → a ≡ b
 same-tally a b f m h s i t = λ j. record { far = f j; most = m j; here = h j; spins = s j; idle = i j; total = t j }
 
 pub tally-told : {S : Type 0} (i at : ℕ) (w : Turn S) (t : Tally) → t .here i ≤ t .most i → tally i at w t ≡ counted i (told i at w) t
@@ -182,3 +182,14 @@ pub codes-told : {S : Type 0} (i at : ℕ) (w : Turn S) → map code (said i (co
 codes-told i at holds = refl
 codes-told i at idles = refl
 codes-told i at (makes w) = refl
+
+-- the passages done, by what is told
+pub done-told : {S : Type 0} (s : Settings) (i at : ℕ) (w : Turn S) (c : Course) → course.course s i w c .done ≡ upd (c .done) i (c .done i + one-if (told i at w .done))
+done-told s i at holds c = kept (c .done) i
+done-told s i at idles c = kept (c .done) i
+done-told s i at (makes w) c = go (w .then)
+  where
+    go : (x : Next) → course.ends x i (c .done) ≡ upd (c .done) i (c .done i + one-if (ends x))
+    go stay = kept (c .done) i
+    go (to k) = kept (c .done) i
+    go over = refl

@@ -1,12 +1,13 @@
 -- Rows of numbers as memory, for a program: a store into the row is an update of the memory.
 use mathlib.Core.Path.{_≡_, refl, ap, _∙_, fun-ext}
-use mathlib.Core.List.{List, [], _∷_}
-use Prim.Native.Nat.{ℕ, zero, suc, _<_}
+use mathlib.Core.List.{List, [], _∷_, _++_, append-assoc}
+use Prim.Native.Nat.{ℕ, zero, suc, _+_, _≤_, _<_}
 use native.Mathlib.Decide.{ℕ-discrete}
 use native.Mathlib.Omega.{arith}
-use lib.ListN.{length, getD, set, replicate}
-use lib.Seq.{getD-set-same, getD-set-other}
+use lib.ListN.{length, getD, set, replicate, drop, length-append, length-drop}
+use lib.Seq.{getD-set-same, getD-set-other, sets, sets-eq, take-append-seam, drop-append-add, drop-drop}
 use Rattle.rules.specs.Memory.{upd, each}
+use Rattle.rules.specs.Calls.{over}
 use Rattle.rules.proofs.Store.{upd-same, upd-other}
 
 -- past its end a row holds the first value of its variable, as 1 for a sense that starts true
@@ -46,3 +47,13 @@ view-blank n start = fun-ext (go n)
     go zero j = refl
     go (suc n) zero = refl
     go (suc n) (suc j) = go n j
+
+-- ---- a lent row that holds es from its start, and past them what it held
+
+pub over-next : (es new l : List ℕ) {row : List ℕ} {n : ℕ} → row ≡ over es l → n ≡ length es → length es + length new ≤ length l → sets row n new ≡ over (es ++ new) l
+over-next es new l e f h = rw (e, f) (more es new l h)
+  where
+    more : (es new l : List ℕ) → length es + length new ≤ length l → sets (over es l) (length es) new ≡ over (es ++ new) l
+    more es new l h =
+        let k : length es + length new ≤ length (over es l) = simp (length-append, length-drop) (omega arith) in
+        rw (sets-eq new (over es l) (length es) k) (simp (take-append-seam, drop-append-add, drop-drop, append-assoc, length-append))

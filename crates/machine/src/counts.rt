@@ -1,0 +1,76 @@
+// What is counted of the turns taken: the same for all machines.
+use crate::made::Made;
+ghost use mathlib.Core.Path.{_≡_};
+ghost use Prim.Native.Nat.{_<_, _≤_, _+_, max};
+ghost use lib.Dec.{eqb};
+ghost use lib.ListN.{length, getD};
+ghost use Rattle.rules.specs.Memory.{pick};
+ghost use Rattle.rules.proofs.Turned.{one-if};
+ghost use Rattle.machine.specs.View.{toldOf};
+ghost use Rattle.machine.specs.CountView.{Counted, Noted, Room};
+
+// 1 for a remote access of processor w, else 0.
+pub(crate) fn far_of(owner: u16, w: u16) -> u16
+    ensures { λ r. ⌜ (r ≡ pick (eqb owner w) 0 1) × (r ≤ 1) ⌝ }
+{
+    if owner == w { 0 } else { 1 }
+}
+
+fn one_if(b: bool) -> u16
+    ensures { λ r. ⌜ (r ≡ one-if b) × (r ≤ 1) ⌝ }
+{
+    if b { 1 } else { 0 }
+}
+
+fn unless(b: bool, x: u16) -> u16
+    ensures { λ r. ⌜ (r ≡ pick b 0 x) × (r ≤ x) ⌝ }
+{
+    if b { 0 } else { x }
+}
+
+fn larger(a: u16, b: u16) -> u16
+    ensures { λ r. ⌜ r ≡ max a b ⌝ }
+{
+    if a <= b { b } else { a }
+}
+
+// Adds a turn of processor w to its numbers. here: the remote references of the passage begun last.
+pub(crate) fn count(
+    done: &mut [u16],
+    remote: &mut [u16],
+    most: &mut [u16],
+    here: &mut [u16],
+    spins: &mut [u16],
+    idle: &mut [u16],
+    w: u16,
+    made: Made,
+)
+    requires { ⌜ (w < 64) × Room w (record { done = now done; remote = now remote; most = now most; here = now here; spins = now spins; idle = now idle }) ⌝ }
+    ensures { λ r. ⌜ Counted w (toldOf w made) (record { done = now (done .entry); remote = now (remote .entry); most = now (most .entry); here = now (here .entry); spins = now (spins .entry); idle = now (idle .entry) }) (record { done = now (done .exit); remote = now (remote .exit); most = now (most .exit); here = now (here .exit); spins = now (spins .exit); idle = now (idle .exit) }) ⌝ }
+{
+    let i = w as usize;
+    let far = far_of(made.owner, w);
+    let passage = unless(made.began, here[i]) + far;
+    done[i] = done[i] + one_if(made.done);
+    remote[i] = remote[i] + far;
+    most[i] = larger(most[i], passage);
+    here[i] = passage;
+    spins[i] = spins[i] + one_if(made.spin);
+    idle[i] = idle[i] + one_if(made.idle);
+}
+
+// Writes the events of processor w's turn from place n on, and gives the place after them.
+pub(crate) fn note(events: &mut [u16], n: usize, w: u16, made: Made) -> usize
+    requires { ⌜ (w < 64) × (n + 2 ≤ length (now events)) ⌝ }
+    ensures { λ r. ⌜ Noted (now (events .entry)) n (toldOf w made .codes) (now (events .exit)) r ⌝ }
+{
+    if made.first == 0 {
+        return n;
+    }
+    events[n] = (made.first as u16) * 256 + w;
+    if made.second == 0 {
+        return n + 1;
+    }
+    events[n + 1] = (made.second as u16) * 256 + w;
+    n + 2
+}

@@ -1,0 +1,67 @@
+// The run over a schedule, a loop for each machine.
+use crate::counts::count;
+use crate::counts::far_of;
+use crate::counts::note;
+use crate::played::End;
+use crate::played::Played;
+use crate::ticket::Ticket;
+use settings::Settings;
+ghost use lib.ListN.{length};
+ghost use Rattle.rules.specs.Ticket as ticket;
+ghost use Rattle.settings.specs.View.{settingsOf};
+ghost use Rattle.machine.specs.PlayView.{Ready, PlayedIs};
+
+pub(crate) fn play_ticket(s: Settings, schedule: &[u16], events: &mut [u16]) -> Played
+    requires { ⌜ Ready (settingsOf s) (now schedule) (length (now events)) ⌝ }
+    ensures { λ r. ⌜ PlayedIs ticket.machine (settingsOf s) (now (schedule .entry)) (now (events .entry)) (now (events .exit)) r ⌝ }
+{
+    let rounds = s.rounds;
+    let hold = s.hold;
+    let mut machine = Ticket::start(s.ticket as u16);
+    let mut done = [0; 64];
+    let mut remote = [0; 64];
+    let mut most = [0; 64];
+    let mut here = [0; 64];
+    let mut spins = [0; 64];
+    let mut idle = [0; 64];
+    let mut total: u32 = 0;
+    let mut n: usize = 0;
+    let mut k: usize = 0;
+    let end = loop {
+        if k == schedule.len() {
+            break End { stop: 0, taken: k };
+        }
+        let w = schedule[k];
+        let i = w as usize;
+        machine = machine.turn(w, s.home, rounds[i], hold[i] as u8);
+        let made = machine.made;
+        let far = far_of(made.owner, w) as u32;
+        if s.budget < total + far {
+            break End { stop: 1, taken: k };
+        }
+        total = total + far;
+        count(
+            &mut done,
+            &mut remote,
+            &mut most,
+            &mut here,
+            &mut spins,
+            &mut idle,
+            w,
+            made,
+        );
+        n = note(events, n, w, made);
+        k = k + 1;
+    };
+    Played {
+        stop: end.stop,
+        taken: end.taken,
+        events: n,
+        total,
+        done,
+        remote,
+        most,
+        spins,
+        idle,
+    }
+}
