@@ -1,4 +1,5 @@
 pub mod Courses
 pub mod Turning
+pub mod Counting
 pub mod Looping
 pub mod TicketTurns

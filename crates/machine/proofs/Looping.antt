@@ -1,5 +1,5 @@
 -- Laws for a loop over the schedule, of any machine.
-use mathlib.Core.Path.{_≡_, refl, sym, ap, _∙_}
+use mathlib.Core.Path.{_≡_, refl, sym, ap, ap₂, _∙_}
 use mathlib.Core.Bool.{Bool, true, false}
 use mathlib.Core.List.{List, [], _∷_, _++_, map}
 use Prim.Native.Nat.{ℕ, zero, suc, _+_, _*_, _≤_, _<_}
@@ -16,44 +16,36 @@ use Rattle.rules.specs.Tally.{Tally, blank}
 use Rattle.rules.specs.Play.{Run, first, next, taking, ended, whole}
 use Rattle.rules.specs.Calls.{over}
 use Rattle.rules.proofs.Accepted.{Accepted, Below}
-use Rattle.rules.proofs.Views.{view, Place, view-at, view-blank, over-next}
+use Rattle.rules.proofs.Views.{column, column-blank, over-next}
+use Rattle.rules.proofs.Counts.{Table≤}
 use Rattle.rules.proofs.Turned.{Told, told, Turned, one-if, counted, same-tally, codes≤, done-told}
 use Rattle.rules.proofs.Going.{Going, As, going-first, going-all, going-past, going-next, as-next}
 use Rattle.machine.specs.declared.played.Played.{Played}
 use Rattle.machine.specs.View.{Starts, Turns}
-use Rattle.machine.specs.CountView.{Sums, tallyOf, Room, Counted, Noted}
+use Rattle.machine.specs.CountView.{numbers, doneOf, tallyOf, Room, Counted, Noted}
 use Rattle.machine.specs.PlayView.{Ready, PlayedIs}
 
--- every row has a place for each of the processors
-pub record Long (a : Sums) : Type 0 where
-  pub done : length (a .done) ≡ mostProcs
-  pub remote : length (a .remote) ≡ mostProcs
-  pub most : length (a .most) ≡ mostProcs
-  pub here : length (a .here) ≡ mostProcs
-  pub spins : length (a .spins) ≡ mostProcs
-  pub idle : length (a .idle) ≡ mostProcs
-
 -- after k turns: r is the run so far, and the program has its state, its course, its numbers and its events
-pub record Held (m : Machine) (s : Settings) (turns events₀ events : List ℕ) (x : m .State) (c : Course) (a : Sums) (total n k : ℕ) : Type 0 where
+pub record Held (m : Machine) (s : Settings) (turns events₀ events : List ℕ) (x : m .State) (c : Course) (a : List ℕ) (total n k : ℕ) : Type 0 where
   pub r : Run (m .State)
   pub es : List ℕ
   pub ready : Ready s turns (length events₀)
   pub going : Going m s turns k r
   pub has : As r x c (tallyOf a total) es
-  pub done : c .done ≡ view 0 (a .done)
+  pub done : c .done ≡ doneOf a
   pub count : n ≡ length es
   pub row : events ≡ over es events₀
   pub long : length events ≡ length events₀
-  pub rows : Long a
+  pub sums : length a ≡ mostProcs * numbers
 
-abbrev pub noSums : Sums
-noSums = let zeros : List ℕ = replicate mostProcs 0 in record { done = zeros; remote = zeros; most = zeros; here = zeros; spins = zeros; idle = zeros }
-
-no-rows : Long noSums
-no-rows = let z = length-replicate {A = ℕ} mostProcs 0 in record { done = z; remote = z; most = z; here = z; spins = z; idle = z }
+-- nothing is counted yet
+abbrev pub noSums : List ℕ
+noSums = replicate (mostProcs * numbers) 0
 
 blank-tally : blank ≡ tallyOf noSums 0
-blank-tally = let z = sym (view-blank mostProcs 0) in same-tally _ _ z z z z z refl
+blank-tally =
+    same-tally blank (tallyOf noSums 0) (sym (column-blank numbers 1 (mostProcs * numbers))) (sym (column-blank numbers 2 (mostProcs * numbers))) (sym (column-blank numbers 3 (mostProcs * numbers))) (sym (column-blank numbers 4 (mostProcs * numbers)))
+    (sym (column-blank numbers 5 (mostProcs * numbers))) refl
 
 -- a turn of the schedule is below procs
 turn-below : (p : ℕ) (turns : List ℕ) (k : ℕ) → Below p turns → k < length turns → getD turns k 0 < p
@@ -71,32 +63,21 @@ module _ (m : Machine) (s : Settings) (turns events₀ : List ℕ) where
     ready = ready;
     going = going-first m s turns;
     has = record { memory = sym (st .memory s p); course = sym (st .outset); tally = blank-tally; events = refl };
-    done = rw (st .outset) (sym (view-blank mostProcs 0));
+    done = rw (st .outset) (sym (column-blank numbers 0 (mostProcs * numbers)));
     count = refl;
     row = refl;
     long = refl;
-    rows = no-rows;
+    sums = length-replicate {A = ℕ} (mostProcs * numbers) 0;
   }
 
   -- the whole run is q, and the program has its numbers
   finished : (q : Run (m .State)) (events : List ℕ) (p : Played) → q ≡ whole m s turns → p .stop ≡ pick (q .stopped) 1 0 → p .taken ≡ q .taken
-      → p .events ≡ length (q .events) → p .total ≡ q .tally .total → events ≡ over (map code (q .events)) events₀ → view 0 (p .done) ≡ q .course .done
-      → view 0 (p .remote) ≡ q .tally .far → view 0 (p .most) ≡ q .tally .most → view 0 (p .spins) ≡ q .tally .spins → view 0 (p .idle) ≡ q .tally .idle
-      → PlayedIs m s turns events₀ events p
-  finished q events p e a b c d f g h i j k = record {
-    stop = rw (← e) a;
-    taken = rw (← e) b;
-    events = rw (← e) c;
-    total = rw (← e) d;
-    row = rw (← e) f;
-    done = rw (← e) g;
-    remote = rw (← e) h;
-    most = rw (← e) i;
-    spins = rw (← e) j;
-    idle = rw (← e) k;
-  }
+      → p .events ≡ length (q .events) → events ≡ over (map code (q .events)) events₀ → doneOf (p .sums) ≡ q .course .done
+      → tallyOf (p .sums) (p .total) ≡ q .tally → PlayedIs m s turns events₀ events p
+  finished q events p e a b c f g h =
+      record { stop = rw (← e) a; taken = rw (← e) b; events = rw (← e) c; row = rw (← e) f; done = rw (← e) g; tally = rw (← e) h }
 
-  module _ (events : List ℕ) (x : m .State) (c : Course) (a : Sums) (total n k : ℕ) (h : Held m s turns events₀ events x c a total n k) where
+  module _ (events : List ℕ) (x : m .State) (c : Course) (a : List ℕ) (total n k : ℕ) (h : Held m s turns events₀ events x c a total n k) where
     -- ---- what the program needs to know before a turn
 
     pub held-turn : k < length turns → (getD turns k 0 < s .procs) × (s .procs ≤ mostProcs) × (k < mostTurns)
@@ -116,47 +97,39 @@ module _ (m : Machine) (s : Settings) (turns events₀ : List ℕ) where
     pub held-events : k < length turns → n + 2 ≤ length events
     held-events l = omega (arith, h .count, events-are, h .going .few, h .ready .wide, h .long)
 
-    small : (f : ℕ → ℕ) (w : ℕ) → k < length turns → f w ≤ k → f w < 65535
-    small f w l e = omega (arith, held-turn l .2)
-
+    -- each of a processor's numbers is at most the turns taken
     pub held-room : (w : ℕ) → k < length turns → w ≡ getD turns k 0 → Room w a
-    unfolding view
+    unfolding column
     held-room w l e =
         let b : w < mostProcs = omega (arith, held-turn l .0, held-turn l .1) in
-        let t = h .going .small in
-        let long = h .rows in
-        record {
-          in-done = record { below = omega (arith, long .done) };
-          in-remote = record { below = omega (arith, long .remote) };
-          in-most = record { below = omega (arith, long .most) };
-          in-here = record { below = omega (arith, long .here) };
-          in-spins = record { below = omega (arith, long .spins) };
-          in-idle = record { below = omega (arith, long .idle) };
-          few-done = small (view 0 (a .done)) w l (rw (h .done) at (held-done w));
-          few-remote = small (view 0 (a .remote)) w l (rw (h .has .tally) at (t .far w));
-          few-here = small (view 0 (a .here)) w l (rw (h .has .tally) at (t .here w));
-          few-spins = small (view 0 (a .spins)) w l (rw (h .has .tally) at (t .spins w));
-          few-idle = small (view 0 (a .idle)) w l (rw (h .has .tally) at (t .idle w));
-        }
+        record { place = omega (arith, h .sums); few = λ j u. few j u (held-turn l .2) }
+      where
+        t : Table≤ k c (tallyOf a total)
+        t = rw (h .has .course, h .has .tally) at (h .going .small)
+
+        few : (j : ℕ) → j < numbers → k < mostTurns → getD a (w * numbers + j) 0 < 65535
+        few zero u v = let z = t .done w in omega (arith, rw (h .done) at z)
+        few (suc zero) u v = omega (arith, t .far w)
+        few (suc (suc zero)) u v = omega (arith, t .most w)
+        few (suc (suc (suc zero))) u v = omega (arith, t .here w)
+        few (suc (suc (suc (suc zero)))) u v = omega (arith, t .spins w)
+        few (suc (suc (suc (suc (suc zero))))) u v = omega (arith, t .idle w)
+        few (suc (suc (suc (suc (suc (suc j)))))) u v = absurd (omega arith)
 
     -- ---- how it goes on
 
-    -- the run so far, or ended, is the whole
+    -- q is the run so far, or the same, ended
     whole-is : (q : Run (m .State)) (p : Played) → q ≡ whole m s turns → q .events ≡ h .r .events → q .taken ≡ h .r .taken → q .tally ≡ h .r .tally
-        → q .course ≡ h .r .course → p .stop ≡ pick (q .stopped) 1 0 → p .taken ≡ k → p .events ≡ n → p .total ≡ total
-        → p .done ≡ a .done → p .remote ≡ a .remote → p .most ≡ a .most → p .spins ≡ a .spins → p .idle ≡ a .idle → PlayedIs m s turns events₀ events p
-    whole-is q p e ev tk ta co f g i j d r mo sp id =
-        finished q events p e f (g ∙ sym (tk ∙ h .going .taken)) (i ∙ h .count ∙ events-are ∙ ap length (sym ev)) (j ∙ sym (tally-is (λ t. t .total)))
+        → q .course ≡ h .r .course → p .stop ≡ pick (q .stopped) 1 0 → p .taken ≡ k → p .events ≡ n → p .total ≡ total → p .sums ≡ a
+        → PlayedIs m s turns events₀ events p
+    whole-is q p e ev tk ta co f g i j d =
+        finished q events p e f (g ∙ sym (tk ∙ h .going .taken)) (i ∙ h .count ∙ events-are ∙ ap length (sym ev))
         (h .row ∙ ap (λ (l : List ℕ). over l events₀) (sym (h .has .events) ∙ ap (map code) (sym ev)))
-        (ap (view 0) d ∙ sym (h .done) ∙ ap (λ (z : Course). z .done) (sym (co ∙ h .has .course)))
-        (ap (view 0) r ∙ sym (tally-is (λ t. t .far))) (ap (view 0) mo ∙ sym (tally-is (λ t. t .most)))
-        (ap (view 0) sp ∙ sym (tally-is (λ t. t .spins))) (ap (view 0) id ∙ sym (tally-is (λ t. t .idle)))
-      where
-        tally-is : {A : Type 0} (f : Tally → A) → f (q .tally) ≡ f (tallyOf a total)
-        tally-is f = ap f (ta ∙ h .has .tally)
+        (ap doneOf d ∙ sym (h .done) ∙ ap (λ (z : Course). z .done) (sym (co ∙ h .has .course)))
+        (ap₂ tallyOf d j ∙ sym (ta ∙ h .has .tally))
 
-    pub held-all : k ≡ length turns → (p : Played) → p .stop ≡ 0 → p .taken ≡ k → p .events ≡ n → p .total ≡ total
-        → p .done ≡ a .done → p .remote ≡ a .remote → p .most ≡ a .most → p .spins ≡ a .spins → p .idle ≡ a .idle → PlayedIs m s turns events₀ events p
+    pub held-all : k ≡ length turns → (p : Played) → p .stop ≡ 0 → p .taken ≡ k → p .events ≡ n → p .total ≡ total → p .sums ≡ a
+        → PlayedIs m s turns events₀ events p
     held-all e p f =
         whole-is (h .r) p (going-all m s turns k (h .r) (h .going) e) refl refl refl refl (f ∙ rw (h .going .on) refl)
 
@@ -171,12 +144,12 @@ module _ (m : Machine) (s : Settings) (turns events₀ : List ℕ) where
       total-is : total ≡ h .r .tally .total
       total-is = ap (λ (z : Tally). z .total) (sym (h .has .tally))
 
-      pub held-past : s .budget < total + d .far → (p : Played) → p .stop ≡ 1 → p .taken ≡ k → p .events ≡ n → p .total ≡ total
-          → p .done ≡ a .done → p .remote ≡ a .remote → p .most ≡ a .most → p .spins ≡ a .spins → p .idle ≡ a .idle → PlayedIs m s turns events₀ events p
+      pub held-past : s .budget < total + d .far → (p : Played) → p .stop ≡ 1 → p .taken ≡ k → p .events ≡ n → p .total ≡ total → p .sums ≡ a
+          → PlayedIs m s turns events₀ events p
       held-past b p f =
           whole-is (ended (h .r)) p (going-past m s turns k (h .r) (h .going) w d more who tells (omega (arith, total-is))) refl refl refl refl f
 
-      pub held-next : total + d .far ≤ s .budget → (b : Sums) (events′ : List ℕ) (n′ : ℕ) → Counted w d a b → Long b → Noted events n (d .codes) events′ n′
+      pub held-next : total + d .far ≤ s .budget → (b events′ : List ℕ) (n′ : ℕ) → Counted w d a b → length b ≡ length a → Noted events n (d .codes) events′ n′
           → Held m s turns events₀ events′ x′ c′ b (total + d .far) n′ (k + 1)
       held-next l b events′ n′ u o v =
           let two : length (d .codes) ≤ 2 = rw tells (codes≤ w (h .r .course .at w) (next m s (h .r) w)) in
@@ -190,5 +163,5 @@ module _ (m : Machine) (s : Settings) (turns events₀ : List ℕ) where
             count = v .place ∙ rw (h .count, length-append (h .es) (d .codes));
             row = v .row ∙ over-next (h .es) (d .codes) events₀ (h .row) (h .count) (omega (arith, two, events-are, h .going .few, h .ready .wide));
             long = rw (v .row) (length-sets events n (d .codes)) ∙ h .long;
-            rows = o;
+            sums = o ∙ h .sums;
           }

@@ -1,43 +1,39 @@
--- The rows in which a run is counted, and what one turn does to them.
-use Prim.Native.Nat.{ℕ, _+_, _<_}
+-- The row in which a run is counted, six numbers for each processor, and what one turn does to it.
+use Prim.Native.Nat.{ℕ, _+_, _*_, _<_}
 use mathlib.Core.Path.{_≡_}
 use mathlib.Core.List.{List}
 use lib.ListN.{length, getD}
 use lib.Seq.{sets}
 use Rattle.rules.specs.Memory.{upd}
 use Rattle.rules.specs.Tally.{Tally}
-use Rattle.rules.proofs.Views.{view, Place}
+use Rattle.rules.proofs.Views.{column}
 use Rattle.rules.proofs.Turned.{Told, one-if, counted}
 
-pub record Sums : Type 0 where
-  pub done : List ℕ
-  pub remote : List ℕ
-  pub most : List ℕ
-  pub here : List ℕ
-  pub spins : List ℕ
-  pub idle : List ℕ
+-- passages done, remote references, the most in a passage, those of the passage begun last, spins, idle turns
+abbrev pub numbers : ℕ
+numbers = 6
 
-abbrev pub tallyOf : Sums → ℕ → Tally
-tallyOf a total =
-    record { far = view 0 (a .remote); most = view 0 (a .most); here = view 0 (a .here); spins = view 0 (a .spins); idle = view 0 (a .idle); total = total }
+abbrev pub doneOf : List ℕ → ℕ → ℕ
+doneOf sums = column numbers 0 sums
 
--- there is a place for processor w in each row, and its numbers can grow by one
-pub record Room (w : ℕ) (a : Sums) : Type 0 where
-  pub in-done : Place (a .done) w
-  pub in-remote : Place (a .remote) w
-  pub in-most : Place (a .most) w
-  pub in-here : Place (a .here) w
-  pub in-spins : Place (a .spins) w
-  pub in-idle : Place (a .idle) w
-  pub few-done : getD (a .done) w 0 < 65535
-  pub few-remote : getD (a .remote) w 0 < 65535
-  pub few-here : getD (a .here) w 0 < 65535
-  pub few-spins : getD (a .spins) w 0 < 65535
-  pub few-idle : getD (a .idle) w 0 < 65535
+abbrev pub tallyOf : List ℕ → ℕ → Tally
+tallyOf sums total = record {
+  far = column numbers 1 sums;
+  most = column numbers 2 sums;
+  here = column numbers 3 sums;
+  spins = column numbers 4 sums;
+  idle = column numbers 5 sums;
+  total = total;
+}
+
+-- there is a place for processor w, and its numbers can grow by one
+pub record Room (w : ℕ) (sums : List ℕ) : Type 0 where
+  pub place : w * numbers + 5 < length sums
+  pub few : (j : ℕ) → j < numbers → getD sums (w * numbers + j) 0 < 65535
 
 -- d was told of processor w's turn, which led from a to b
-pub record Counted (w : ℕ) (d : Told) (a b : Sums) : Type 0 where
-  pub done : view 0 (b .done) ≡ upd (view 0 (a .done)) w (view 0 (a .done) w + one-if (d .done))
+pub record Counted (w : ℕ) (d : Told) (a b : List ℕ) : Type 0 where
+  pub done : doneOf b ≡ upd (doneOf a) w (doneOf a w + one-if (d .done))
   pub tally : (total : ℕ) → tallyOf b (total + d .far) ≡ counted w d (tallyOf a total)
 
 -- these numbers are written into the row from n on, and r is the place after them

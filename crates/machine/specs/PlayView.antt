@@ -9,8 +9,8 @@ use Rattle.rules.specs.Step.{code, Machine}
 use Rattle.rules.specs.Play.{whole}
 use Rattle.rules.specs.Calls.{over}
 use Rattle.rules.proofs.Accepted.{Accepted}
-use Rattle.rules.proofs.Views.{view}
 use Rattle.machine.specs.declared.played.Played.{Played}
+use Rattle.machine.specs.CountView.{doneOf, tallyOf}
 
 -- the settings and the schedule are in order, and there is room for the events
 pub record Ready (s : Settings) (turns : List ℕ) (room : ℕ) : Type 0 where
@@ -22,10 +22,6 @@ pub record PlayedIs (m : Machine) (s : Settings) (turns before after : List ℕ)
   pub stop : p .stop ≡ pick (whole m s turns .stopped) 1 0
   pub taken : p .taken ≡ whole m s turns .taken
   pub events : p .events ≡ length (whole m s turns .events)
-  pub total : p .total ≡ whole m s turns .tally .total
   pub row : after ≡ over (map code (whole m s turns .events)) before
-  pub done : view 0 (p .done) ≡ whole m s turns .course .done
-  pub remote : view 0 (p .remote) ≡ whole m s turns .tally .far
-  pub most : view 0 (p .most) ≡ whole m s turns .tally .most
-  pub spins : view 0 (p .spins) ≡ whole m s turns .tally .spins
-  pub idle : view 0 (p .idle) ≡ whole m s turns .tally .idle
+  pub done : doneOf (p .sums) ≡ whole m s turns .course .done
+  pub tally : tallyOf (p .sums) (p .total) ≡ whole m s turns .tally

@@ -34,29 +34,25 @@ fn larger(a: u16, b: u16) -> u16
     if a <= b { b } else { a }
 }
 
-// Adds a turn of processor w to its numbers. here: the remote references of the passage begun last.
-pub(crate) fn count(
-    done: &mut [u16],
-    remote: &mut [u16],
-    most: &mut [u16],
-    here: &mut [u16],
-    spins: &mut [u16],
-    idle: &mut [u16],
-    w: u16,
-    made: Made,
-)
-    requires { ⌜ (w < 64) × Room w (record { done = now done; remote = now remote; most = now most; here = now here; spins = now spins; idle = now idle }) ⌝ }
-    ensures { λ r. ⌜ Counted w (toldOf w made) (record { done = now (done .entry); remote = now (remote .entry); most = now (most .entry); here = now (here .entry); spins = now (spins .entry); idle = now (idle .entry) }) (record { done = now (done .exit); remote = now (remote .exit); most = now (most .exit); here = now (here .exit); spins = now (spins .exit); idle = now (idle .exit) }) ⌝ }
+// Adds a turn of processor w to its six numbers.
+pub(crate) fn count(sums: &mut [u16], w: u16, made: Made)
+    requires { ⌜ (w < 64) × Room w (now sums) ⌝ }
+    ensures { λ r. ⌜ Counted w (toldOf w made) (now (sums .entry)) (now (sums .exit)) ⌝ }
 {
-    let i = w as usize;
+    let at = w as usize * 6;
     let far = far_of(made.owner, w);
-    let passage = unless(made.began, here[i]) + far;
-    done[i] = done[i] + one_if(made.done);
-    remote[i] = remote[i] + far;
-    most[i] = larger(most[i], passage);
-    here[i] = passage;
-    spins[i] = spins[i] + one_if(made.spin);
-    idle[i] = idle[i] + one_if(made.idle);
+    let done = sums[at] + one_if(made.done);
+    let remote = sums[at + 1] + far;
+    let here = unless(made.began, sums[at + 3]) + far;
+    let most = larger(sums[at + 2], here);
+    let spins = sums[at + 4] + one_if(made.spin);
+    let idle = sums[at + 5] + one_if(made.idle);
+    sums[at] = done;
+    sums[at + 1] = remote;
+    sums[at + 2] = most;
+    sums[at + 3] = here;
+    sums[at + 4] = spins;
+    sums[at + 5] = idle;
 }
 
 // Writes the events of processor w's turn from place n on, and gives the place after them.

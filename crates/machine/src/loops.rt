@@ -18,12 +18,7 @@ pub(crate) fn play_ticket(s: Settings, schedule: &[u16], events: &mut [u16]) -> 
     let rounds = s.rounds;
     let hold = s.hold;
     let mut machine = Ticket::start(s.ticket as u16);
-    let mut done = [0; 64];
-    let mut remote = [0; 64];
-    let mut most = [0; 64];
-    let mut here = [0; 64];
-    let mut spins = [0; 64];
-    let mut idle = [0; 64];
+    let mut sums = [0; 384];
     let mut total: u32 = 0;
     let mut n: usize = 0;
     let mut k: usize = 0;
@@ -40,16 +35,7 @@ pub(crate) fn play_ticket(s: Settings, schedule: &[u16], events: &mut [u16]) -> 
             break End { stop: 1, taken: k };
         }
         total = total + far;
-        count(
-            &mut done,
-            &mut remote,
-            &mut most,
-            &mut here,
-            &mut spins,
-            &mut idle,
-            w,
-            made,
-        );
+        count(&mut sums, w, made);
         n = note(events, n, w, made);
         k = k + 1;
     };
@@ -58,10 +44,6 @@ pub(crate) fn play_ticket(s: Settings, schedule: &[u16], events: &mut [u16]) -> 
         taken: end.taken,
         events: n,
         total,
-        done,
-        remote,
-        most,
-        spins,
-        idle,
+        sums,
     }
 }

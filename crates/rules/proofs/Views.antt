@@ -1,7 +1,8 @@
 -- Rows of numbers as memory, for a program: a store into the row is an update of the memory.
 use mathlib.Core.Path.{_≡_, refl, ap, _∙_, fun-ext}
 use mathlib.Core.List.{List, [], _∷_, _++_, append-assoc}
-use Prim.Native.Nat.{ℕ, zero, suc, _+_, _≤_, _<_}
+use Prim.Native.Nat.{ℕ, zero, suc, _+_, _*_, _≤_, _<_}
+use mathlib.Core.Logic.{_≢_}
 use native.Mathlib.Decide.{ℕ-discrete}
 use native.Mathlib.Omega.{arith}
 use lib.ListN.{length, getD, set, replicate, drop, length-append, length-drop}
@@ -47,6 +48,35 @@ view-blank n start = fun-ext (go n)
     go zero j = refl
     go (suc n) zero = refl
     go (suc n) (suc j) = go n j
+
+-- ---- a row of several numbers for each processor
+
+-- the j-th of `width` numbers of each
+unfoldable pub column : ℕ → ℕ → List ℕ → ℕ → ℕ
+column width j row o = getD row (o * width + j) 0
+
+pub column-blank : (width j n : ℕ) → column width j (replicate n 0) ≡ each 0
+unfolding column
+column-blank width j n = fun-ext (λ o. go n (o * width + j))
+  where
+    go : (n i : ℕ) → _≡_ {A = ℕ} (getD (replicate n 0) i 0) 0
+    go zero i = refl
+    go (suc n) zero = refl
+    go (suc n) (suc i) = go n i
+
+-- a store into a column, and into another. In a row of six, so that the place tells whose it is
+module _ (row : List ℕ) (i j v : ℕ) (u : j < 6) where
+  pub column-set : i * 6 + j < length row → column 6 j (set row (i * 6 + j) v) ≡ upd (column 6 j row) i v
+  unfolding column
+  column-set h = fun-ext (λ o. go o (ℕ-discrete o i))
+    where
+      go : (o : ℕ) → Dec (o ≡ i) → getD (set row (i * 6 + j) v) (o * 6 + j) 0 ≡ upd (column 6 j row) i v o
+      go o (yes e) = rw (e, upd-same (column 6 j row) i v) (getD-set-same row (i * 6 + j) v 0 h)
+      go o (no n) = rw (upd-other (column 6 j row) i v o n) (getD-set-other row (i * 6 + j) (o * 6 + j) v 0 (λ e. n (omega arith)))
+
+  pub column-other : (k : ℕ) → k < 6 → k ≢ j → column 6 k (set row (i * 6 + j) v) ≡ column 6 k row
+  unfolding column
+  column-other k l n = fun-ext (λ o. getD-set-other row (i * 6 + j) (o * 6 + k) v 0 (λ e. n (omega arith)))
 
 -- ---- a lent row that holds es from its start, and past them what it held
 
