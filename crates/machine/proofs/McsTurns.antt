@@ -54,6 +54,17 @@ module _ (x : State) (z : Sound x) (i v : ℕ) where
 abbrev At : ℕ → Settings → Type 0
 At home s = s .home ≡ home
 
+-- the last step is none of these
+pub record Last (k : ℕ) : Type 0 where
+  pub not1 : k ≡ 1 → ⊥
+  pub not2 : k ≡ 2 → ⊥
+  pub not3 : k ≡ 3 → ⊥
+  pub not4 : k ≡ 4 → ⊥
+  pub not5 : k ≡ 5 → ⊥
+  pub not7 : k ≡ 7 → ⊥
+  pub not8 : k ≡ 8 → ⊥
+  pub not9 : k ≡ 9 → ⊥
+
 module _ (w home rounds hold : ℕ) (x : State) (c : Course) (what : Due) (e : Dues c w rounds what) (k : ℕ) (f : what ≡ due.Step k)
     (x′ : State) (c′ : Course) (d : Told) (v : Sound x) (h : w < 64) where
   abbrev Out : Type 0
@@ -74,97 +85,114 @@ module _ (w home rounds hold : ℕ) (x : State) (c : Course) (what : Due) (e : D
 
   pub mcs-clears : k ≡ 1 → x′ ≡ setNext w 0 x → Goes 2 → d ≡ told w [] true false false → Out
   unfolding step remote
-  mcs-clears z a b g =
-      (turns-to machine (At home) w rounds hold x c what e x′ c′ d k f (λ s. clears x w) (λ s p. rw z refl) (λ s p. a) (λ s p. rw z g) 2
-      (λ s. refl) (λ s. refl) b, rw a (sound-next x v w 0 (omega arith)))
+  mcs-clears z a b g = (
+    turns-to machine (At home) w rounds hold x c what e x′ c′ d k f (λ s. clears x w) (λ s p. rw z refl) (λ s p. a) (λ s p. rw z g) 2
+        (λ s. refl) (λ s. refl) b,
+    rw a (sound-next x v w 0 (omega arith)),
+  )
 
   pub mcs-takes : k ≡ 2 → x .tail ≡ 0 → x′ ≡ setTail (w + 1) x → Granted → d ≡ told home ((256 + w) ∷ (512 + w) ∷ []) false false false → Out
   unfolding step remote
-  mcs-takes z t a b g =
-      (turns-grant machine (At home) w rounds hold x c what e x′ c′ d k f (λ s. swaps 0 s x w) (λ s p. rw z (ap (λ n. swaps n s x w) t)) (λ s p. rw (add-one w) at a)
-      (λ s p. rw (z, p) g) 7 (λ s. refl) (λ s. refl) b, rw a (sound-tail x v 0 (w + 1) (omega arith)))
+  mcs-takes z t a b g = (
+    turns-grant machine (At home) w rounds hold x c what e x′ c′ d k f (λ s. swaps 0 s x w) (λ s p. rw z (ap (λ n. swaps n s x w) t)) (λ s p. rw (add-one w) at a)
+        (λ s p. rw (z, p) g) 7 (λ s. refl) (λ s. refl) b,
+    rw a (sound-tail x v 0 (w + 1) (omega arith)),
+  )
 
   pub mcs-joins : k ≡ 2 → (q : ℕ) → x .tail ≡ suc q → x′ ≡ setPred w q (setTail (w + 1) x) → Goes 3 → d ≡ told home ((256 + w) ∷ []) false false false → Out
   unfolding step remote
-  mcs-joins z q t a b g =
-      (turns-to machine (At home) w rounds hold x c what e x′ c′ d k f (λ s. swaps (suc q) s x w) (λ s p. rw z (ap (λ n. swaps n s x w) t)) (λ s p. rw (add-one w) at a)
-      (λ s p. rw (z, p) g) 3 (λ s. refl) (λ s. refl) b,
-      rw a (sound-pred (setTail (w + 1) x) (sound-tail x v 0 (w + 1) (omega arith)) w q (omega arith)))
+  mcs-joins z q t a b g = (
+    turns-to machine (At home) w rounds hold x c what e x′ c′ d k f (λ s. swaps (suc q) s x w) (λ s p. rw z (ap (λ n. swaps n s x w) t)) (λ s p. rw (add-one w) at a)
+        (λ s p. rw (z, p) g) 3 (λ s. refl) (λ s. refl) b,
+    rw a (sound-pred (setTail (w + 1) x) (sound-tail x v 0 (w + 1) (omega arith)) w q (omega arith)),
+  )
 
   pub mcs-locks : k ≡ 3 → x′ ≡ setLocked w 1 x → Goes 4 → d ≡ told w [] false false false → Out
   unfolding step remote
-  mcs-locks z a b g =
-      (turns-to machine (At home) w rounds hold x c what e x′ c′ d k f (λ s. locks x w) (λ s p. rw z refl) (λ s p. a) (λ s p. rw z g) 4
-      (λ s. refl) (λ s. refl) b, rw a (sound-locked x v w 1))
+  mcs-locks z a b g = (
+    turns-to machine (At home) w rounds hold x c what e x′ c′ d k f (λ s. locks x w) (λ s p. rw z refl) (λ s p. a) (λ s p. rw z g) 4
+        (λ s. refl) (λ s. refl) b,
+    rw a (sound-locked x v w 1),
+  )
 
   pub mcs-links : k ≡ 4 → x′ ≡ setNext (x .pred w) (w + 1) x → Goes 5 → d ≡ told (x .pred w) [] false false false → Out
   unfolding step remote
-  mcs-links z a b g =
-      (turns-to machine (At home) w rounds hold x c what e x′ c′ d k f (λ s. links x w) (λ s p. rw z refl) (λ s p. rw (add-one w) at a) (λ s p. rw z g) 5
-      (λ s. refl) (λ s. refl) b, rw a (sound-next x v (x .pred w) (w + 1) (omega arith)))
+  mcs-links z a b g = (
+    turns-to machine (At home) w rounds hold x c what e x′ c′ d k f (λ s. links x w) (λ s p. rw z refl) (λ s p. rw (add-one w) at a) (λ s p. rw z g) 5
+        (λ s. refl) (λ s. refl) b,
+    rw a (sound-next x v (x .pred w) (w + 1) (omega arith)),
+  )
 
   pub mcs-granted : k ≡ 5 → x .locked w ≡ 0 → x′ ≡ x → Granted → d ≡ told w ((512 + w) ∷ []) false false false → Out
   unfolding step remote
-  mcs-granted z t a b g =
-      (turns-grant machine (At home) w rounds hold x c what e x′ c′ d k f (λ s. waits 0 x w) (λ s p. rw z (ap (λ n. waits n x w) t)) (λ s p. a)
-      (λ s p. rw z g) 7 (λ s. refl) (λ s. refl) b, rw a v)
+  mcs-granted z t a b g = (
+    turns-grant machine (At home) w rounds hold x c what e x′ c′ d k f (λ s. waits 0 x w) (λ s p. rw z (ap (λ n. waits n x w) t)) (λ s p. a)
+        (λ s p. rw z g) 7 (λ s. refl) (λ s. refl) b,
+    rw a v,
+  )
 
-  pub mcs-spins : k ≡ 5 → (q : ℕ) → x .locked w ≡ suc q → x′ ≡ x → c′ ≡ c → d ≡ told w [] false false true → Out
+  pub mcs-spins : k ≡ 5 → (x .locked w ≡ 0 → ⊥) → x′ ≡ x → c′ ≡ c → d ≡ told w [] false false true → Out
   unfolding step remote
-  mcs-spins z q t a b g =
-      (turns-stay machine (At home) w rounds hold x c what e x′ c′ d k f (λ s. waits (suc q) x w) (λ s p. rw z (ap (λ n. waits n x w) t)) (λ s p. a)
-      (λ s p. rw z g) (λ s. refl) (λ s. refl) b, rw a v)
+  mcs-spins z t a b g =
+      let q : x .locked w ≡ suc (x .locked w - 1) = omega arith in (
+        turns-stay machine (At home) w rounds hold x c what e x′ c′ d k f (λ s. waits (suc (x .locked w - 1)) x w) (λ s p. rw z (ap (λ n. waits n x w) q))
+            (λ s p. a) (λ s p. rw z g) (λ s. refl) (λ s. refl) b,
+        rw a v,
+      )
 
   pub mcs-alone : k ≡ 7 → x .next w ≡ 0 → x′ ≡ x → Goes 8 → d ≡ told w [] false false false → Out
   unfolding step remote
-  mcs-alone z t a b g =
-      (turns-to machine (At home) w rounds hold x c what e x′ c′ d k f (λ s. looks 0 x w) (λ s p. rw z (ap (λ n. looks n x w) t)) (λ s p. a)
-      (λ s p. rw z g) 8 (λ s. refl) (λ s. refl) b, rw a v)
+  mcs-alone z t a b g = (
+    turns-to machine (At home) w rounds hold x c what e x′ c′ d k f (λ s. looks 0 x w) (λ s p. rw z (ap (λ n. looks n x w) t)) (λ s p. a)
+        (λ s p. rw z g) 8 (λ s. refl) (λ s. refl) b,
+    rw a v,
+  )
 
   pub mcs-finds : k ≡ 7 → (q : ℕ) → x .next w ≡ suc q → x′ ≡ setSucc w q x → Goes 10 → d ≡ told w [] false false false → Out
   unfolding step remote
-  mcs-finds z q t a b g =
-      (turns-to machine (At home) w rounds hold x c what e x′ c′ d k f (λ s. looks (suc q) x w) (λ s p. rw z (ap (λ n. looks n x w) t)) (λ s p. a)
-      (λ s p. rw z g) 10 (λ s. refl) (λ s. refl) b, rw a (sound-succ x v w q (omega (arith, v .next w))))
+  mcs-finds z q t a b g = (
+    turns-to machine (At home) w rounds hold x c what e x′ c′ d k f (λ s. looks (suc q) x w) (λ s p. rw z (ap (λ n. looks n x w) t)) (λ s p. a)
+        (λ s p. rw z g) 10 (λ s. refl) (λ s. refl) b,
+    rw a (sound-succ x v w q (omega (arith, v .next w))),
+  )
 
   pub mcs-drains : k ≡ 8 → x .tail ≡ w + 1 → x′ ≡ setTail 0 x → Over → d ≡ told home ((768 + w) ∷ []) false true false → Out
   unfolding step remote
-  mcs-drains z t a b g =
-      (turns-over machine (At home) w rounds hold x c what e x′ c′ d k f (λ s. drains true s x) (λ s p. rw (z, eq-eqb _ _ (t ∙ add-one w)) refl) (λ s p. a)
-      (λ s p. rw (z, p) g) (λ s. refl) (λ s. refl) b, rw a (sound-tail x v 0 0 (omega arith)))
+  mcs-drains z t a b g = (
+    turns-over machine (At home) w rounds hold x c what e x′ c′ d k f (λ s. drains true s x) (λ s p. rw (z, eq-eqb _ _ (t ∙ add-one w)) refl) (λ s p. a)
+        (λ s p. rw (z, p) g) (λ s. refl) (λ s. refl) b,
+    rw a (sound-tail x v 0 0 (omega arith)),
+  )
 
   pub mcs-fails : k ≡ 8 → (x .tail ≡ w + 1 → ⊥) → x′ ≡ x → Goes 9 → d ≡ told home [] false false false → Out
   unfolding step remote
-  mcs-fails z t a b g =
-      (turns-to machine (At home) w rounds hold x c what e x′ c′ d k f (λ s. drains false s x) (λ s p. rw (z, ne-eqb _ _ (λ u. t (u ∙ sym (add-one w)))) refl) (λ s p. a)
-      (λ s p. rw (z, p) g) 9 (λ s. refl) (λ s. refl) b, rw a v)
+  mcs-fails z t a b g = (
+    turns-to machine (At home) w rounds hold x c what e x′ c′ d k f (λ s. drains false s x) (λ s p. rw (z, ne-eqb _ _ (λ u. t (u ∙ sym (add-one w)))) refl) (λ s p. a)
+        (λ s p. rw (z, p) g) 9 (λ s. refl) (λ s. refl) b,
+    rw a v,
+  )
 
   pub mcs-rereads : k ≡ 9 → x .next w ≡ 0 → x′ ≡ x → c′ ≡ c → d ≡ told w [] false false true → Out
   unfolding step remote
-  mcs-rereads z t a b g =
-      (turns-stay machine (At home) w rounds hold x c what e x′ c′ d k f (λ s. rereads 0 x w) (λ s p. rw z (ap (λ n. rereads n x w) t)) (λ s p. a)
-      (λ s p. rw z g) (λ s. refl) (λ s. refl) b, rw a v)
+  mcs-rereads z t a b g = (
+    turns-stay machine (At home) w rounds hold x c what e x′ c′ d k f (λ s. rereads 0 x w) (λ s p. rw z (ap (λ n. rereads n x w) t)) (λ s p. a)
+        (λ s p. rw z g) (λ s. refl) (λ s. refl) b,
+    rw a v,
+  )
 
   pub mcs-meets : k ≡ 9 → (q : ℕ) → x .next w ≡ suc q → x′ ≡ setSucc w q x → Goes 10 → d ≡ told w [] false false false → Out
   unfolding step remote
-  mcs-meets z q t a b g =
-      (turns-to machine (At home) w rounds hold x c what e x′ c′ d k f (λ s. rereads (suc q) x w) (λ s p. rw z (ap (λ n. rereads n x w) t)) (λ s p. a)
-      (λ s p. rw z g) 10 (λ s. refl) (λ s. refl) b, rw a (sound-succ x v w q (omega (arith, v .next w))))
+  mcs-meets z q t a b g = (
+    turns-to machine (At home) w rounds hold x c what e x′ c′ d k f (λ s. rereads (suc q) x w) (λ s p. rw z (ap (λ n. rereads n x w) t)) (λ s p. a)
+        (λ s p. rw z g) 10 (λ s. refl) (λ s. refl) b,
+    rw a (sound-succ x v w q (omega (arith, v .next w))),
+  )
 
-  -- none of the steps before
-  pub record Last : Type 0 where
-    pub not1 : k ≡ 1 → ⊥
-    pub not2 : k ≡ 2 → ⊥
-    pub not3 : k ≡ 3 → ⊥
-    pub not4 : k ≡ 4 → ⊥
-    pub not5 : k ≡ 5 → ⊥
-    pub not7 : k ≡ 7 → ⊥
-    pub not8 : k ≡ 8 → ⊥
-    pub not9 : k ≡ 9 → ⊥
-
-  pub mcs-wakes : Last → x′ ≡ setLocked (x .succ w) 0 x → Over → d ≡ told (x .succ w) ((768 + w) ∷ []) false true false → Out
+  pub mcs-wakes : Last k → x′ ≡ setLocked (x .succ w) 0 x → Over → d ≡ told (x .succ w) ((768 + w) ∷ []) false true false → Out
   unfolding step remote
-  mcs-wakes y a b g =
-      (turns-over machine (At home) w rounds hold x c what e x′ c′ d k f (λ s. wakes x w)
-      (λ s p. rw (ne-eqb _ _ (y .not1), ne-eqb _ _ (y .not2), ne-eqb _ _ (y .not3), ne-eqb _ _ (y .not4), ne-eqb _ _ (y .not5), ne-eqb _ _ (y .not7), ne-eqb _ _ (y .not8), ne-eqb _ _ (y .not9)) refl)
-      (λ s p. a) (λ s p. rw (ne-eqb _ _ (y .not1)) g) (λ s. refl) (λ s. refl) b, rw a (sound-locked x v (x .succ w) 0))
+  mcs-wakes y a b g = (
+    turns-over machine (At home) w rounds hold x c what e x′ c′ d k f (λ s. wakes x w)
+        (λ s p. rw (ne-eqb _ _ (y .not1), ne-eqb _ _ (y .not2), ne-eqb _ _ (y .not3), ne-eqb _ _ (y .not4), ne-eqb _ _ (y .not5), ne-eqb _ _ (y .not7), ne-eqb _ _ (y .not8), ne-eqb _ _ (y .not9)) refl)
+        (λ s p. a) (λ s p. rw (ne-eqb _ _ (y .not1)) g) (λ s. refl) (λ s. refl) b,
+    rw a (sound-locked x v (x .succ w) 0),
+  )

@@ -7,11 +7,12 @@ use Rattle.machine.proofs.mcs.Mcs.start.Statement.{statement}
 use Rattle.machine.proofs.mcs.Mcs.start.Tie as tie
 
 returns : tie.Need-returns
-returns c = 
+returns c =
     let k : tie.After-start = search needs in
-    rw (c .of .ensures)
-    (record { memory = λ s p. same-state _ _ refl (view-blank 64 0) (view-blank 64 0) (view-blank 64 0) (view-blank 64 0); outset = k .start .ensures },
-    sound-blank _ refl (view-blank 64 0) (view-blank 64 0) (view-blank 64 0))
+    rw (c .of .ensures) (
+      record { memory = λ s p. same-state _ _ refl (view-blank 64 0) (view-blank 64 0) (view-blank 64 0) (view-blank 64 0); outset = k .start .ensures },
+      sound-blank _ refl (view-blank 64 0) (view-blank 64 0) (view-blank 64 0),
+    )
 
 pub start-spec : {M : Type 1} → statement M
 start-spec =

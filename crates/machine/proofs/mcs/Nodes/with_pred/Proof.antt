@@ -7,7 +7,7 @@ use Rattle.machine.proofs.mcs.Nodes.with_pred.Statement.{statement}
 use Rattle.machine.proofs.mcs.Nodes.with_pred.Tie as tie
 
 returns : tie.Need-returns
-returns c = 
+returns c =
     let z : tie.Start = search needs in
     let p : Place (z .args .self .pred) (z .args .q) = search needs in
     λ tail. same-state _ _ refl refl refl (view-put 0 p refl) refl
