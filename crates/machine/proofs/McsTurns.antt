@@ -65,8 +65,15 @@ pub record Last (k : ℕ) : Type 0 where
   pub not8 : k ≡ 8 → ⊥
   pub not9 : k ≡ 9 → ⊥
 
-module _ (w home rounds hold : ℕ) (x : State) (c : Course) (what : Due) (e : Dues c w rounds what) (k : ℕ) (f : what ≡ due.Step k)
-    (x′ : State) (c′ : Course) (d : Told) (v : Sound x) (h : w < 64) where
+-- processor w is at step k of its passage, in a sound state
+pub record Here (w rounds : ℕ) (x : State) (c : Course) (k : ℕ) : Type 0 where
+  pub below : w < 64
+  pub sound : Sound x
+  pub what : Due
+  pub dues : Dues c w rounds what
+  pub is : what ≡ due.Step k
+
+module _ {w rounds : ℕ} {x : State} {c : Course} {k : ℕ} (o : Here w rounds x c k) (home hold : ℕ) (x′ : State) (c′ : Course) (d : Told) where
   abbrev Out : Type 0
   Out = Turns machine (At home) w rounds hold x c x′ c′ d × Sound x′
 
@@ -86,113 +93,113 @@ module _ (w home rounds hold : ℕ) (x : State) (c : Course) (what : Due) (e : D
   pub mcs-clears : k ≡ 1 → x′ ≡ setNext w 0 x → Goes 2 → d ≡ told w [] true false false → Out
   unfolding step remote
   mcs-clears z a b g = (
-    turns-to machine (At home) w rounds hold x c what e x′ c′ d k f (λ s. clears x w) (λ s p. rw z refl) (λ s p. a) (λ s p. rw z g) 2
+    turns-to machine (At home) w rounds hold x c (o .what) (o .dues) x′ c′ d k (o .is) (λ s. clears x w) (λ s p. rw z refl) (λ s p. a) (λ s p. rw z g) 2
         (λ s. refl) (λ s. refl) b,
-    rw a (sound-next x v w 0 (omega arith)),
+    rw a (sound-next x (o .sound) w 0 (omega arith)),
   )
 
   pub mcs-takes : k ≡ 2 → x .tail ≡ 0 → x′ ≡ setTail (w + 1) x → Granted → d ≡ told home ((256 + w) ∷ (512 + w) ∷ []) false false false → Out
   unfolding step remote
   mcs-takes z t a b g = (
-    turns-grant machine (At home) w rounds hold x c what e x′ c′ d k f (λ s. swaps 0 s x w) (λ s p. rw z (ap (λ n. swaps n s x w) t)) (λ s p. rw (add-one w) at a)
+    turns-grant machine (At home) w rounds hold x c (o .what) (o .dues) x′ c′ d k (o .is) (λ s. swaps 0 s x w) (λ s p. rw z (ap (λ n. swaps n s x w) t)) (λ s p. rw (add-one w) at a)
         (λ s p. rw (z, p) g) 7 (λ s. refl) (λ s. refl) b,
-    rw a (sound-tail x v 0 (w + 1) (omega arith)),
+    rw a (sound-tail x (o .sound) 0 (w + 1) (omega arith)),
   )
 
   pub mcs-joins : k ≡ 2 → (q : ℕ) → x .tail ≡ suc q → x′ ≡ setPred w q (setTail (w + 1) x) → Goes 3 → d ≡ told home ((256 + w) ∷ []) false false false → Out
   unfolding step remote
   mcs-joins z q t a b g = (
-    turns-to machine (At home) w rounds hold x c what e x′ c′ d k f (λ s. swaps (suc q) s x w) (λ s p. rw z (ap (λ n. swaps n s x w) t)) (λ s p. rw (add-one w) at a)
+    turns-to machine (At home) w rounds hold x c (o .what) (o .dues) x′ c′ d k (o .is) (λ s. swaps (suc q) s x w) (λ s p. rw z (ap (λ n. swaps n s x w) t)) (λ s p. rw (add-one w) at a)
         (λ s p. rw (z, p) g) 3 (λ s. refl) (λ s. refl) b,
-    rw a (sound-pred (setTail (w + 1) x) (sound-tail x v 0 (w + 1) (omega arith)) w q (omega arith)),
+    rw a (sound-pred (setTail (w + 1) x) (sound-tail x (o .sound) 0 (w + 1) (omega arith)) w q (omega arith)),
   )
 
   pub mcs-locks : k ≡ 3 → x′ ≡ setLocked w 1 x → Goes 4 → d ≡ told w [] false false false → Out
   unfolding step remote
   mcs-locks z a b g = (
-    turns-to machine (At home) w rounds hold x c what e x′ c′ d k f (λ s. locks x w) (λ s p. rw z refl) (λ s p. a) (λ s p. rw z g) 4
+    turns-to machine (At home) w rounds hold x c (o .what) (o .dues) x′ c′ d k (o .is) (λ s. locks x w) (λ s p. rw z refl) (λ s p. a) (λ s p. rw z g) 4
         (λ s. refl) (λ s. refl) b,
-    rw a (sound-locked x v w 1),
+    rw a (sound-locked x (o .sound) w 1),
   )
 
   pub mcs-links : k ≡ 4 → x′ ≡ setNext (x .pred w) (w + 1) x → Goes 5 → d ≡ told (x .pred w) [] false false false → Out
   unfolding step remote
   mcs-links z a b g = (
-    turns-to machine (At home) w rounds hold x c what e x′ c′ d k f (λ s. links x w) (λ s p. rw z refl) (λ s p. rw (add-one w) at a) (λ s p. rw z g) 5
+    turns-to machine (At home) w rounds hold x c (o .what) (o .dues) x′ c′ d k (o .is) (λ s. links x w) (λ s p. rw z refl) (λ s p. rw (add-one w) at a) (λ s p. rw z g) 5
         (λ s. refl) (λ s. refl) b,
-    rw a (sound-next x v (x .pred w) (w + 1) (omega arith)),
+    rw a (sound-next x (o .sound) (x .pred w) (w + 1) (omega arith)),
   )
 
   pub mcs-granted : k ≡ 5 → x .locked w ≡ 0 → x′ ≡ x → Granted → d ≡ told w ((512 + w) ∷ []) false false false → Out
   unfolding step remote
   mcs-granted z t a b g = (
-    turns-grant machine (At home) w rounds hold x c what e x′ c′ d k f (λ s. waits 0 x w) (λ s p. rw z (ap (λ n. waits n x w) t)) (λ s p. a)
+    turns-grant machine (At home) w rounds hold x c (o .what) (o .dues) x′ c′ d k (o .is) (λ s. waits 0 x w) (λ s p. rw z (ap (λ n. waits n x w) t)) (λ s p. a)
         (λ s p. rw z g) 7 (λ s. refl) (λ s. refl) b,
-    rw a v,
+    rw a (o .sound),
   )
 
   pub mcs-spins : k ≡ 5 → (x .locked w ≡ 0 → ⊥) → x′ ≡ x → c′ ≡ c → d ≡ told w [] false false true → Out
   unfolding step remote
   mcs-spins z t a b g =
       let q : x .locked w ≡ suc (x .locked w - 1) = omega arith in (
-        turns-stay machine (At home) w rounds hold x c what e x′ c′ d k f (λ s. waits (suc (x .locked w - 1)) x w) (λ s p. rw z (ap (λ n. waits n x w) q))
+        turns-stay machine (At home) w rounds hold x c (o .what) (o .dues) x′ c′ d k (o .is) (λ s. waits (suc (x .locked w - 1)) x w) (λ s p. rw z (ap (λ n. waits n x w) q))
             (λ s p. a) (λ s p. rw z g) (λ s. refl) (λ s. refl) b,
-        rw a v,
+        rw a (o .sound),
       )
 
   pub mcs-alone : k ≡ 7 → x .next w ≡ 0 → x′ ≡ x → Goes 8 → d ≡ told w [] false false false → Out
   unfolding step remote
   mcs-alone z t a b g = (
-    turns-to machine (At home) w rounds hold x c what e x′ c′ d k f (λ s. looks 0 x w) (λ s p. rw z (ap (λ n. looks n x w) t)) (λ s p. a)
+    turns-to machine (At home) w rounds hold x c (o .what) (o .dues) x′ c′ d k (o .is) (λ s. looks 0 x w) (λ s p. rw z (ap (λ n. looks n x w) t)) (λ s p. a)
         (λ s p. rw z g) 8 (λ s. refl) (λ s. refl) b,
-    rw a v,
+    rw a (o .sound),
   )
 
   pub mcs-finds : k ≡ 7 → (q : ℕ) → x .next w ≡ suc q → x′ ≡ setSucc w q x → Goes 10 → d ≡ told w [] false false false → Out
   unfolding step remote
   mcs-finds z q t a b g = (
-    turns-to machine (At home) w rounds hold x c what e x′ c′ d k f (λ s. looks (suc q) x w) (λ s p. rw z (ap (λ n. looks n x w) t)) (λ s p. a)
+    turns-to machine (At home) w rounds hold x c (o .what) (o .dues) x′ c′ d k (o .is) (λ s. looks (suc q) x w) (λ s p. rw z (ap (λ n. looks n x w) t)) (λ s p. a)
         (λ s p. rw z g) 10 (λ s. refl) (λ s. refl) b,
-    rw a (sound-succ x v w q (omega (arith, v .next w))),
+    rw a (sound-succ x (o .sound) w q (omega (arith, o .sound .next w))),
   )
 
   pub mcs-drains : k ≡ 8 → x .tail ≡ w + 1 → x′ ≡ setTail 0 x → Over → d ≡ told home ((768 + w) ∷ []) false true false → Out
   unfolding step remote
   mcs-drains z t a b g = (
-    turns-over machine (At home) w rounds hold x c what e x′ c′ d k f (λ s. drains true s x) (λ s p. rw (z, eq-eqb _ _ (t ∙ add-one w)) refl) (λ s p. a)
+    turns-over machine (At home) w rounds hold x c (o .what) (o .dues) x′ c′ d k (o .is) (λ s. drains true s x) (λ s p. rw (z, eq-eqb _ _ (t ∙ add-one w)) refl) (λ s p. a)
         (λ s p. rw (z, p) g) (λ s. refl) (λ s. refl) b,
-    rw a (sound-tail x v 0 0 (omega arith)),
+    rw a (sound-tail x (o .sound) 0 0 (omega arith)),
   )
 
   pub mcs-fails : k ≡ 8 → (x .tail ≡ w + 1 → ⊥) → x′ ≡ x → Goes 9 → d ≡ told home [] false false false → Out
   unfolding step remote
   mcs-fails z t a b g = (
-    turns-to machine (At home) w rounds hold x c what e x′ c′ d k f (λ s. drains false s x) (λ s p. rw (z, ne-eqb _ _ (λ u. t (u ∙ sym (add-one w)))) refl) (λ s p. a)
+    turns-to machine (At home) w rounds hold x c (o .what) (o .dues) x′ c′ d k (o .is) (λ s. drains false s x) (λ s p. rw (z, ne-eqb _ _ (λ u. t (u ∙ sym (add-one w)))) refl) (λ s p. a)
         (λ s p. rw (z, p) g) 9 (λ s. refl) (λ s. refl) b,
-    rw a v,
+    rw a (o .sound),
   )
 
   pub mcs-rereads : k ≡ 9 → x .next w ≡ 0 → x′ ≡ x → c′ ≡ c → d ≡ told w [] false false true → Out
   unfolding step remote
   mcs-rereads z t a b g = (
-    turns-stay machine (At home) w rounds hold x c what e x′ c′ d k f (λ s. rereads 0 x w) (λ s p. rw z (ap (λ n. rereads n x w) t)) (λ s p. a)
+    turns-stay machine (At home) w rounds hold x c (o .what) (o .dues) x′ c′ d k (o .is) (λ s. rereads 0 x w) (λ s p. rw z (ap (λ n. rereads n x w) t)) (λ s p. a)
         (λ s p. rw z g) (λ s. refl) (λ s. refl) b,
-    rw a v,
+    rw a (o .sound),
   )
 
   pub mcs-meets : k ≡ 9 → (q : ℕ) → x .next w ≡ suc q → x′ ≡ setSucc w q x → Goes 10 → d ≡ told w [] false false false → Out
   unfolding step remote
   mcs-meets z q t a b g = (
-    turns-to machine (At home) w rounds hold x c what e x′ c′ d k f (λ s. rereads (suc q) x w) (λ s p. rw z (ap (λ n. rereads n x w) t)) (λ s p. a)
+    turns-to machine (At home) w rounds hold x c (o .what) (o .dues) x′ c′ d k (o .is) (λ s. rereads (suc q) x w) (λ s p. rw z (ap (λ n. rereads n x w) t)) (λ s p. a)
         (λ s p. rw z g) 10 (λ s. refl) (λ s. refl) b,
-    rw a (sound-succ x v w q (omega (arith, v .next w))),
+    rw a (sound-succ x (o .sound) w q (omega (arith, o .sound .next w))),
   )
 
   pub mcs-wakes : Last k → x′ ≡ setLocked (x .succ w) 0 x → Over → d ≡ told (x .succ w) ((768 + w) ∷ []) false true false → Out
   unfolding step remote
   mcs-wakes y a b g = (
-    turns-over machine (At home) w rounds hold x c what e x′ c′ d k f (λ s. wakes x w)
+    turns-over machine (At home) w rounds hold x c (o .what) (o .dues) x′ c′ d k (o .is) (λ s. wakes x w)
         (λ s p. rw (ne-eqb _ _ (y .not1), ne-eqb _ _ (y .not2), ne-eqb _ _ (y .not3), ne-eqb _ _ (y .not4), ne-eqb _ _ (y .not5), ne-eqb _ _ (y .not7), ne-eqb _ _ (y .not8), ne-eqb _ _ (y .not9)) refl)
         (λ s p. a) (λ s p. rw (ne-eqb _ _ (y .not1)) g) (λ s. refl) (λ s. refl) b,
-    rw a (sound-locked x v (x .succ w) 0),
+    rw a (sound-locked x (o .sound) (x .succ w) 0),
   )

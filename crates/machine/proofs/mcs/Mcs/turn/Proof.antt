@@ -4,19 +4,29 @@ use mathlib.Core.Path.{_≡_, refl, ap, _∙_}
 use native.Mathlib.Omega.{arith}
 use Rattle.rules.specs.Mcs.{machine}
 use Rattle.rules.proofs.Views.{view}
-use Rattle.machine.specs.View.{toldOf}
+use Rattle.machine.specs.View.{courseOf, toldOf}
+use Rattle.machine.specs.McsView.{stateOf}
 use Rattle.machine.proofs.Courses.{held-some}
 use Rattle.machine.proofs.Turning.{turns-hold, turns-idle, told-none}
-use Rattle.machine.proofs.McsTurns.{Last, mcs-clears, mcs-takes, mcs-joins, mcs-locks, mcs-links, mcs-granted, mcs-spins, mcs-alone, mcs-finds, mcs-drains, mcs-fails, mcs-rereads, mcs-meets, mcs-wakes}
+use Rattle.machine.proofs.McsTurns.{Here, Last, mcs-clears, mcs-takes, mcs-joins, mcs-locks, mcs-links, mcs-granted, mcs-spins, mcs-alone, mcs-finds, mcs-drains, mcs-fails, mcs-rereads, mcs-meets, mcs-wakes}
 use Rattle.machine.proofs.mcs.Mcs.turn.Statement.{statement}
 use Rattle.machine.proofs.mcs.Mcs.turn.Tie as tie
 
+-- before every arm of the steps
+here : (k : tie.After-known-told) → let s : tie.Start = k .before .before .before .before .before .before in
+    Here (s .args .w) (s .args .rounds) (stateOf (s .args .self)) (courseOf (s .args .self .course)) (k .before .due2 .given .0 .0)
+here k =
+    let a : tie.After-due2 = k .before in
+    let d : tie.After-due = a .before .before in
+    let z : tie.Start = d .before .before .before in
+    record { below = z .pre .0; sound = z .pre .2; what = d .due .result; dues = d .due .ensures; is = a .due2 .given .1 }
+
+-- the default arm
 rest : (k : tie.At-match2-rest) → Last (k .before .before .due2 .given .0 .0)
 rest k = search needs
 
 held-requires : tie.Need-held-requires
 held-requires c κs =
-    let z : tie.Start = search needs in
     let d : tie.After-due = search needs in
     (search needs, held-some _ _ _ (d .due .result) (d .due .ensures) (search needs))
 
@@ -39,52 +49,27 @@ returns-2 c =
 
 returns-3 : tie.Need-returns-3
 returns-3 c =
-    let k : tie.At-match2-keys1 = search needs in
-    let a : tie.After-due2 = k .before .before in
-    let d : tie.After-due = a .before .before in
-    let z : tie.Start = d .before .before .before in
-    let l : tie.After-with-next = search needs in
-    let g : tie.After-goes = search needs in
-    let m : tie.After-first = search needs in
+    let k : tie.At-match2-keys1 = c .before .before .before .before in
     rw (c .of3 .ensures)
-    (mcs-clears _ _ _ _ _ _ (d .due .result) (d .due .ensures) (a .due2 .given .0 .0) (a .due2 .given .1) _ _ _ (z .pre .2) (z .pre .0) (search needs) (l .with-next .ensures _) (g .goes .ensures) (ap (toldOf _) (m .first .ensures)))
+    (mcs-clears (here (k .before)) _ _ _ _ _ (search needs) (c .before .before .before .with-next .ensures _) (c .before .before .goes .ensures) (ap (toldOf _) (c .before .first .ensures)))
 
 returns-4 : tie.Need-returns-4
 returns-4 c =
-    let b : tie.Then1 = search needs in
-    let k : tie.At-match2-keys2 = b .before in
-    let a : tie.After-due2 = k .before .before in
-    let d : tie.After-due = a .before .before in
-    let z : tie.Start = d .before .before .before in
-    let g : tie.After-granted = search needs in
-    let m : tie.After-later = search needs in
+    let b : tie.Then1 = c .before .before .before in
     rw (c .of4 .ensures)
-    (mcs-takes _ _ _ _ _ _ (d .due .result) (d .due .ensures) (a .due2 .given .0 .0) (a .due2 .given .1) _ _ _ (z .pre .2) (z .pre .0) (search needs) (b .if1 .taken) refl (g .granted .ensures) (ap (toldOf _) (m .later .ensures)))
+    (mcs-takes (here (b .before .before)) _ _ _ _ _ (search needs) (b .if1 .taken) refl (c .before .before .granted .ensures) (ap (toldOf _) (c .before .later .ensures)))
 
 returns-5 : tie.Need-returns-5
 returns-5 c =
-    let b : tie.Else1 = search needs in
-    let k : tie.At-match2-keys2 = b .before in
-    let a : tie.After-due2 = k .before .before in
-    let d : tie.After-due = a .before .before in
-    let z : tie.Start = d .before .before .before in
-    let l : tie.After-with-pred = search needs in
-    let g : tie.After-goes2 = search needs in
-    let m : tie.After-later2 = search needs in
+    let b : tie.Else1 = c .before .before .before .before in
     rw (c .of5 .ensures)
-    (mcs-joins _ _ _ _ _ _ (d .due .result) (d .due .ensures) (a .due2 .given .0 .0) (a .due2 .given .1) _ _ _ (z .pre .2) (z .pre .0) (search needs) _ (search needs) (l .with-pred .ensures _) (g .goes2 .ensures) (ap (toldOf _) (m .later2 .ensures)))
+    (mcs-joins (here (b .before .before)) _ _ _ _ _ (search needs) _ (search needs) (c .before .before .before .with-pred .ensures _) (c .before .before .goes2 .ensures) (ap (toldOf _) (c .before .later2 .ensures)))
 
 returns-6 : tie.Need-returns-6
 returns-6 c =
-    let k : tie.At-match2-keys3 = search needs in
-    let a : tie.After-due2 = k .before .before in
-    let d : tie.After-due = a .before .before in
-    let z : tie.Start = d .before .before .before in
-    let l : tie.After-with-locked = search needs in
-    let g : tie.After-goes3 = search needs in
-    let m : tie.After-later3 = search needs in
+    let k : tie.At-match2-keys3 = c .before .before .before .before in
     rw (c .of6 .ensures)
-    (mcs-locks _ _ _ _ _ _ (d .due .result) (d .due .ensures) (a .due2 .given .0 .0) (a .due2 .given .1) _ _ _ (z .pre .2) (z .pre .0) (search needs) (l .with-locked .ensures _) (g .goes3 .ensures) (ap (toldOf _) (m .later3 .ensures)))
+    (mcs-locks (here (k .before)) _ _ _ _ _ (search needs) (c .before .before .before .with-locked .ensures _) (c .before .before .goes3 .ensures) (ap (toldOf _) (c .before .later3 .ensures)))
 
 with-next-requires-2 : tie.Need-with-next-requires-2
 unfolding view
@@ -101,117 +86,63 @@ cast-later c =
 returns-7 : tie.Need-returns-7
 unfolding view
 returns-7 c =
-    let k : tie.At-match2-keys4 = search needs in
-    let a : tie.After-due2 = k .before .before in
-    let d : tie.After-due = a .before .before in
-    let z : tie.Start = d .before .before .before in
-    let l : tie.After-with-next2 = search needs in
-    let g : tie.After-goes4 = search needs in
-    let m : tie.After-later4 = search needs in
+    let k : tie.At-match2-keys4 = c .before .before .before .before .before in
     rw (c .of7 .ensures)
-    (mcs-links _ _ _ _ _ _ (d .due .result) (d .due .ensures) (a .due2 .given .0 .0) (a .due2 .given .1) _ _ _ (z .pre .2) (z .pre .0) (search needs) (l .with-next2 .ensures _) (g .goes4 .ensures) (ap (toldOf _) (m .later4 .ensures)))
+    (mcs-links (here (k .before)) _ _ _ _ _ (search needs) (c .before .before .before .with-next2 .ensures _) (c .before .before .goes4 .ensures) (ap (toldOf _) (c .before .later4 .ensures)))
 
 returns-8 : tie.Need-returns-8
 unfolding view
 returns-8 c =
-    let b : tie.Then2 = search needs in
-    let k : tie.At-match2-keys5 = b .before .before in
-    let a : tie.After-due2 = k .before .before in
-    let d : tie.After-due = a .before .before in
-    let z : tie.Start = d .before .before .before in
-    let g : tie.After-granted2 = search needs in
-    let m : tie.After-later5 = search needs in
+    let b : tie.Then2 = c .before .before .before in
     rw (c .of8 .ensures)
-    (mcs-granted _ _ _ _ _ _ (d .due .result) (d .due .ensures) (a .due2 .given .0 .0) (a .due2 .given .1) _ _ _ (z .pre .2) (z .pre .0) (search needs) (search needs) refl (g .granted2 .ensures) (ap (toldOf _) (m .later5 .ensures)))
+    (mcs-granted (here (b .before .before .before)) _ _ _ _ _ (search needs) (search needs) refl (c .before .before .granted2 .ensures) (ap (toldOf _) (c .before .later5 .ensures)))
 
 returns-9 : tie.Need-returns-9
 unfolding view
 returns-9 c =
-    let b : tie.Else2 = search needs in
-    let k : tie.At-match2-keys5 = b .before .before in
-    let a : tie.After-due2 = k .before .before in
-    let d : tie.After-due = a .before .before in
-    let z : tie.Start = d .before .before .before in
-    let m : tie.After-spin = search needs in
+    let b : tie.Else2 = c .before .before in
     rw (c .of9 .ensures)
-    (mcs-spins _ _ _ _ _ _ (d .due .result) (d .due .ensures) (a .due2 .given .0 .0) (a .due2 .given .1) _ _ _ (z .pre .2) (z .pre .0) (search needs) (search needs) refl refl (ap (toldOf _) (m .spin .ensures)))
+    (mcs-spins (here (b .before .before .before)) _ _ _ _ _ (search needs) (search needs) refl refl (ap (toldOf _) (c .before .spin .ensures)))
 
 returns-10 : tie.Need-returns-10
 unfolding view
 returns-10 c =
-    let b : tie.Then3 = search needs in
-    let k : tie.At-match2-keys6 = b .before .before in
-    let a : tie.After-due2 = k .before .before in
-    let d : tie.After-due = a .before .before in
-    let z : tie.Start = d .before .before .before in
-    let g : tie.After-goes5 = search needs in
-    let m : tie.After-later6 = search needs in
+    let b : tie.Then3 = c .before .before .before in
     rw (c .of10 .ensures)
-    (mcs-alone _ _ _ _ _ _ (d .due .result) (d .due .ensures) (a .due2 .given .0 .0) (a .due2 .given .1) _ _ _ (z .pre .2) (z .pre .0) (search needs) (search needs) refl (g .goes5 .ensures) (ap (toldOf _) (m .later6 .ensures)))
+    (mcs-alone (here (b .before .before .before)) _ _ _ _ _ (search needs) (search needs) refl (c .before .before .goes5 .ensures) (ap (toldOf _) (c .before .later6 .ensures)))
 
 returns-11 : tie.Need-returns-11
 unfolding view
 returns-11 c =
-    let b : tie.Else3 = search needs in
-    let k : tie.At-match2-keys6 = b .before .before in
-    let a : tie.After-due2 = k .before .before in
-    let d : tie.After-due = a .before .before in
-    let z : tie.Start = d .before .before .before in
-    let l : tie.After-with-succ = search needs in
-    let g : tie.After-goes6 = search needs in
-    let m : tie.After-later7 = search needs in
+    let b : tie.Else3 = c .before .before .before .before in
     rw (c .of11 .ensures)
-    (mcs-finds _ _ _ _ _ _ (d .due .result) (d .due .ensures) (a .due2 .given .0 .0) (a .due2 .given .1) _ _ _ (z .pre .2) (z .pre .0) (search needs) _ (search needs) (l .with-succ .ensures _) (g .goes6 .ensures) (ap (toldOf _) (m .later7 .ensures)))
+    (mcs-finds (here (b .before .before .before)) _ _ _ _ _ (search needs) _ (search needs) (c .before .before .before .with-succ .ensures _) (c .before .before .goes6 .ensures) (ap (toldOf _) (c .before .later7 .ensures)))
 
 returns-12 : tie.Need-returns-12
 returns-12 c =
-    let b : tie.Then4 = search needs in
-    let k : tie.At-match2-keys7 = b .before in
-    let a : tie.After-due2 = k .before .before in
-    let d : tie.After-due = a .before .before in
-    let z : tie.Start = d .before .before .before in
-    let g : tie.After-over = search needs in
-    let m : tie.After-last = search needs in
+    let b : tie.Then4 = c .before .before .before in
     rw (c .of12 .ensures)
-    (mcs-drains _ _ _ _ _ _ (d .due .result) (d .due .ensures) (a .due2 .given .0 .0) (a .due2 .given .1) _ _ _ (z .pre .2) (z .pre .0) (search needs) (search needs) refl (g .over .ensures) (ap (toldOf _) (m .last .ensures)))
+    (mcs-drains (here (b .before .before)) _ _ _ _ _ (search needs) (search needs) refl (c .before .before .over .ensures) (ap (toldOf _) (c .before .last .ensures)))
 
 returns-13 : tie.Need-returns-13
 returns-13 c =
-    let b : tie.Else4 = search needs in
-    let k : tie.At-match2-keys7 = b .before in
-    let a : tie.After-due2 = k .before .before in
-    let d : tie.After-due = a .before .before in
-    let z : tie.Start = d .before .before .before in
-    let g : tie.After-goes7 = search needs in
-    let m : tie.After-later8 = search needs in
+    let b : tie.Else4 = c .before .before .before in
     rw (c .of13 .ensures)
-    (mcs-fails _ _ _ _ _ _ (d .due .result) (d .due .ensures) (a .due2 .given .0 .0) (a .due2 .given .1) _ _ _ (z .pre .2) (z .pre .0) (search needs) (search needs) refl (g .goes7 .ensures) (ap (toldOf _) (m .later8 .ensures)))
+    (mcs-fails (here (b .before .before)) _ _ _ _ _ (search needs) (search needs) refl (c .before .before .goes7 .ensures) (ap (toldOf _) (c .before .later8 .ensures)))
 
 returns-14 : tie.Need-returns-14
 unfolding view
 returns-14 c =
-    let b : tie.Then5 = search needs in
-    let k : tie.At-match2-keys8 = b .before .before in
-    let a : tie.After-due2 = k .before .before in
-    let d : tie.After-due = a .before .before in
-    let z : tie.Start = d .before .before .before in
-    let m : tie.After-spin2 = search needs in
+    let b : tie.Then5 = c .before .before in
     rw (c .of14 .ensures)
-    (mcs-rereads _ _ _ _ _ _ (d .due .result) (d .due .ensures) (a .due2 .given .0 .0) (a .due2 .given .1) _ _ _ (z .pre .2) (z .pre .0) (search needs) (search needs) refl refl (ap (toldOf _) (m .spin2 .ensures)))
+    (mcs-rereads (here (b .before .before .before)) _ _ _ _ _ (search needs) (search needs) refl refl (ap (toldOf _) (c .before .spin2 .ensures)))
 
 returns-15 : tie.Need-returns-15
 unfolding view
 returns-15 c =
-    let b : tie.Else5 = search needs in
-    let k : tie.At-match2-keys8 = b .before .before in
-    let a : tie.After-due2 = k .before .before in
-    let d : tie.After-due = a .before .before in
-    let z : tie.Start = d .before .before .before in
-    let l : tie.After-with-succ2 = search needs in
-    let g : tie.After-goes8 = search needs in
-    let m : tie.After-later9 = search needs in
+    let b : tie.Else5 = c .before .before .before .before in
     rw (c .of15 .ensures)
-    (mcs-meets _ _ _ _ _ _ (d .due .result) (d .due .ensures) (a .due2 .given .0 .0) (a .due2 .given .1) _ _ _ (z .pre .2) (z .pre .0) (search needs) _ (search needs) (l .with-succ2 .ensures _) (g .goes8 .ensures) (ap (toldOf _) (m .later9 .ensures)))
+    (mcs-meets (here (b .before .before .before)) _ _ _ _ _ (search needs) _ (search needs) (c .before .before .before .with-succ2 .ensures _) (c .before .before .goes8 .ensures) (ap (toldOf _) (c .before .later9 .ensures)))
 
 with-locked-requires-2 : tie.Need-with-locked-requires-2
 unfolding view
@@ -228,15 +159,9 @@ cast-last c =
 returns-16 : tie.Need-returns-16
 unfolding view
 returns-16 c =
-    let k : tie.At-match2-rest = search needs in
-    let a : tie.After-due2 = k .before .before in
-    let d : tie.After-due = a .before .before in
-    let z : tie.Start = d .before .before .before in
-    let l : tie.After-with-locked2 = search needs in
-    let g : tie.After-over2 = search needs in
-    let m : tie.After-last2 = search needs in
+    let k : tie.At-match2-rest = c .before .before .before .before .before in
     rw (c .of16 .ensures)
-    (mcs-wakes _ _ _ _ _ _ (d .due .result) (d .due .ensures) (a .due2 .given .0 .0) (a .due2 .given .1) _ _ _ (z .pre .2) (z .pre .0) (rest k) (l .with-locked2 .ensures _) (g .over2 .ensures) (ap (toldOf _) (m .last2 .ensures)))
+    (mcs-wakes (here (k .before)) _ _ _ _ _ (rest k) (c .before .before .before .with-locked2 .ensures _) (c .before .before .over2 .ensures) (ap (toldOf _) (c .before .last2 .ensures)))
 
 pub turn-spec : {M : Type 1} → statement M
 turn-spec =
