@@ -106,13 +106,14 @@ module _ {w rounds : ℕ} {x : State} {c : Course} {k : ℕ} (o : Here w rounds 
     rw a (sound-tail x (o .sound) 0 (w + 1) (omega arith)),
   )
 
-  pub mcs-joins : k ≡ 2 → (q : ℕ) → x .tail ≡ suc q → x′ ≡ setPred w q (setTail (w + 1) x) → Goes 3 → d ≡ told home ((256 + w) ∷ []) false false false → Out
+  pub mcs-joins : k ≡ 2 → (x .tail ≡ 0 → ⊥) → x′ ≡ setPred w (x .tail - 1) (setTail (w + 1) x) → Goes 3 → d ≡ told home ((256 + w) ∷ []) false false false → Out
   unfolding step remote
-  mcs-joins z q t a b g = (
-    turns-to machine (At home) w rounds hold x c (o .what) (o .dues) x′ c′ d k (o .is) (λ s. swaps (suc q) s x w) (λ s p. rw z (ap (λ n. swaps n s x w) t)) (λ s p. rw (add-one w) at a)
-        (λ s p. rw (z, p) g) 3 (λ s. refl) (λ s. refl) b,
-    rw a (sound-pred (setTail (w + 1) x) (sound-tail x (o .sound) 0 (w + 1) (omega arith)) w q (omega arith)),
-  )
+  mcs-joins z t a b g =
+      let q : x .tail ≡ suc (x .tail - 1) = omega arith in (
+        turns-to machine (At home) w rounds hold x c (o .what) (o .dues) x′ c′ d k (o .is) (λ s. swaps (suc (x .tail - 1)) s x w) (λ s p. rw z (ap (λ n. swaps n s x w) q)) (λ s p. rw (add-one w) at a)
+            (λ s p. rw (z, p) g) 3 (λ s. refl) (λ s. refl) b,
+        rw a (sound-pred (setTail (w + 1) x) (sound-tail x (o .sound) 0 (w + 1) (omega arith)) w (x .tail - 1) (omega arith)),
+      )
 
   pub mcs-locks : k ≡ 3 → x′ ≡ setLocked w 1 x → Goes 4 → d ≡ told w [] false false false → Out
   unfolding step remote
@@ -155,13 +156,14 @@ module _ {w rounds : ℕ} {x : State} {c : Course} {k : ℕ} (o : Here w rounds 
     rw a (o .sound),
   )
 
-  pub mcs-finds : k ≡ 7 → (q : ℕ) → x .next w ≡ suc q → x′ ≡ setSucc w q x → Goes 10 → d ≡ told w [] false false false → Out
+  pub mcs-finds : k ≡ 7 → (x .next w ≡ 0 → ⊥) → x′ ≡ setSucc w (x .next w - 1) x → Goes 10 → d ≡ told w [] false false false → Out
   unfolding step remote
-  mcs-finds z q t a b g = (
-    turns-to machine (At home) w rounds hold x c (o .what) (o .dues) x′ c′ d k (o .is) (λ s. looks (suc q) x w) (λ s p. rw z (ap (λ n. looks n x w) t)) (λ s p. a)
-        (λ s p. rw z g) 10 (λ s. refl) (λ s. refl) b,
-    rw a (sound-succ x (o .sound) w q (omega (arith, o .sound .next w))),
-  )
+  mcs-finds z t a b g =
+      let q : x .next w ≡ suc (x .next w - 1) = omega arith in (
+        turns-to machine (At home) w rounds hold x c (o .what) (o .dues) x′ c′ d k (o .is) (λ s. looks (suc (x .next w - 1)) x w) (λ s p. rw z (ap (λ n. looks n x w) q)) (λ s p. a)
+            (λ s p. rw z g) 10 (λ s. refl) (λ s. refl) b,
+        rw a (sound-succ x (o .sound) w (x .next w - 1) (omega (arith, o .sound .next w))),
+      )
 
   pub mcs-drains : k ≡ 8 → x .tail ≡ w + 1 → x′ ≡ setTail 0 x → Over → d ≡ told home ((768 + w) ∷ []) false true false → Out
   unfolding step remote
@@ -187,13 +189,14 @@ module _ {w rounds : ℕ} {x : State} {c : Course} {k : ℕ} (o : Here w rounds 
     rw a (o .sound),
   )
 
-  pub mcs-meets : k ≡ 9 → (q : ℕ) → x .next w ≡ suc q → x′ ≡ setSucc w q x → Goes 10 → d ≡ told w [] false false false → Out
+  pub mcs-meets : k ≡ 9 → (x .next w ≡ 0 → ⊥) → x′ ≡ setSucc w (x .next w - 1) x → Goes 10 → d ≡ told w [] false false false → Out
   unfolding step remote
-  mcs-meets z q t a b g = (
-    turns-to machine (At home) w rounds hold x c (o .what) (o .dues) x′ c′ d k (o .is) (λ s. rereads (suc q) x w) (λ s p. rw z (ap (λ n. rereads n x w) t)) (λ s p. a)
-        (λ s p. rw z g) 10 (λ s. refl) (λ s. refl) b,
-    rw a (sound-succ x (o .sound) w q (omega (arith, o .sound .next w))),
-  )
+  mcs-meets z t a b g =
+      let q : x .next w ≡ suc (x .next w - 1) = omega arith in (
+        turns-to machine (At home) w rounds hold x c (o .what) (o .dues) x′ c′ d k (o .is) (λ s. rereads (suc (x .next w - 1)) x w) (λ s p. rw z (ap (λ n. rereads n x w) q)) (λ s p. a)
+            (λ s p. rw z g) 10 (λ s. refl) (λ s. refl) b,
+        rw a (sound-succ x (o .sound) w (x .next w - 1) (omega (arith, o .sound .next w))),
+      )
 
   pub mcs-wakes : Last k → x′ ≡ setLocked (x .succ w) 0 x → Over → d ≡ told (x .succ w) ((768 + w) ∷ []) false true false → Out
   unfolding step remote

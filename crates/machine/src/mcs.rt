@@ -26,6 +26,7 @@ pub(crate) struct Mcs {
     pub(crate) made: Made,
 }
 
+// The nodes with one value stored.
 impl Nodes {
     fn with_next(self, q: usize, v: u8) -> Nodes
         requires { ⌜ q < 64 ⌝ }

@@ -63,7 +63,7 @@ returns-5 : tie.Need-returns-5
 returns-5 c =
     let b : tie.Else1 = c .before .before .before .before in
     rw (c .of5 .ensures)
-    (mcs-joins (here (b .before .before)) _ _ _ _ _ (search needs) _ (search needs) (c .before .before .before .with-pred .ensures _) (c .before .before .goes2 .ensures) (ap (toldOf _) (c .before .later2 .ensures)))
+    (mcs-joins (here (b .before .before)) _ _ _ _ _ (search needs) (search needs) (c .before .before .before .with-pred .ensures _) (c .before .before .goes2 .ensures) (ap (toldOf _) (c .before .later2 .ensures)))
 
 returns-6 : tie.Need-returns-6
 returns-6 c =
@@ -116,7 +116,7 @@ unfolding view
 returns-11 c =
     let b : tie.Else3 = c .before .before .before .before in
     rw (c .of11 .ensures)
-    (mcs-finds (here (b .before .before .before)) _ _ _ _ _ (search needs) _ (search needs) (c .before .before .before .with-succ .ensures _) (c .before .before .goes6 .ensures) (ap (toldOf _) (c .before .later7 .ensures)))
+    (mcs-finds (here (b .before .before .before)) _ _ _ _ _ (search needs) (search needs) (c .before .before .before .with-succ .ensures _) (c .before .before .goes6 .ensures) (ap (toldOf _) (c .before .later7 .ensures)))
 
 returns-12 : tie.Need-returns-12
 returns-12 c =
@@ -142,7 +142,7 @@ unfolding view
 returns-15 c =
     let b : tie.Else5 = c .before .before .before .before in
     rw (c .of15 .ensures)
-    (mcs-meets (here (b .before .before .before)) _ _ _ _ _ (search needs) _ (search needs) (c .before .before .before .with-succ2 .ensures _) (c .before .before .goes8 .ensures) (ap (toldOf _) (c .before .later9 .ensures)))
+    (mcs-meets (here (b .before .before .before)) _ _ _ _ _ (search needs) (search needs) (c .before .before .before .with-succ2 .ensures _) (c .before .before .goes8 .ensures) (ap (toldOf _) (c .before .later9 .ensures)))
 
 with-locked-requires-2 : tie.Need-with-locked-requires-2
 unfolding view
