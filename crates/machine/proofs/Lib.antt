@@ -3,3 +3,4 @@ pub mod Turning
 pub mod Counting
 pub mod Looping
 pub mod TicketTurns
+pub mod McsTurns

@@ -2,3 +2,4 @@ pub mod View
 pub mod CountView
 pub mod PlayView
 pub mod TicketView
+pub mod McsView

@@ -3,5 +3,6 @@ mod counts;
 mod course;
 mod loops;
 mod made;
+mod mcs;
 mod played;
 mod ticket;
