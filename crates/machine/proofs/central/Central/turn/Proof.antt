@@ -39,42 +39,34 @@ returns-3 c =
     let d : tie.After-due = search needs in
     let a : tie.After-due2 = search needs in
     let b : tie.At-match2-keys1 = search needs in
-    let l : tie.After-counts = search needs in
-    let g : tie.After-goes = search needs in
     let m : tie.After-first = search needs in
     rw (c .of3 .ensures)
-    (central-last _ _ _ _ _ _ _ (d .due .result) (d .due .ensures) (a .due2 .given .0 .0) (a .due2 .given .1) _ _ _ (search needs) (search needs) (l .counts .ensures) (g .goes .ensures) (ap (toldOf _) (m .first .ensures)))
+    (central-last _ _ _ _ _ _ _ (d .due .result) (d .due .ensures) (a .due2 .given .0 .0) (a .due2 .given .1) _ _ _ (search needs) (search needs) (search needs) (search needs) (ap (toldOf _) (m .first .ensures)))
 
 returns-4 : tie.Need-returns-4
 returns-4 c =
     let d : tie.After-due = search needs in
     let a : tie.After-due2 = search needs in
     let b : tie.At-match2-keys1 = search needs in
-    let l : tie.After-counts2 = search needs in
-    let g : tie.After-goes2 = search needs in
     let m : tie.After-first2 = search needs in
     rw (c .of4 .ensures)
-    (central-early _ _ _ _ _ _ _ (d .due .result) (d .due .ensures) (a .due2 .given .0 .0) (a .due2 .given .1) _ _ _ (search needs) (search needs) (l .counts2 .ensures) (g .goes2 .ensures) (ap (toldOf _) (m .first2 .ensures)))
+    (central-early _ _ _ _ _ _ _ (d .due .result) (d .due .ensures) (a .due2 .given .0 .0) (a .due2 .given .1) _ _ _ (search needs) (search needs) (search needs) (search needs) (ap (toldOf _) (m .first2 .ensures)))
 
 returns-5 : tie.Need-returns-5
 returns-5 c =
     let d : tie.After-due = search needs in
     let a : tie.After-due2 = search needs in
-    let l : tie.After-resets = search needs in
-    let g : tie.After-goes3 = search needs in
     let m : tie.After-later = search needs in
     rw (c .of5 .ensures)
-    (central-resets _ _ _ _ _ _ _ (d .due .result) (d .due .ensures) (a .due2 .given .0 .0) (a .due2 .given .1) _ _ _ (search needs) (l .resets .ensures) (g .goes3 .ensures) (ap (toldOf _) (m .later .ensures)))
+    (central-resets _ _ _ _ _ _ _ (d .due .result) (d .due .ensures) (a .due2 .given .0 .0) (a .due2 .given .1) _ _ _ (search needs) (search needs) (search needs) (ap (toldOf _) (m .later .ensures)))
 
 returns-6 : tie.Need-returns-6
 returns-6 c =
     let d : tie.After-due = search needs in
     let a : tie.After-due2 = search needs in
-    let l : tie.After-opens = search needs in
-    let g : tie.After-leaves = search needs in
     let m : tie.After-last = search needs in
     rw (c .of6 .ensures)
-    (central-opens _ _ _ _ _ _ _ (d .due .result) (d .due .ensures) (a .due2 .given .0 .0) (a .due2 .given .1) _ _ _ (search needs) (l .opens .ensures) (g .leaves .ensures) (ap (toldOf _) (m .last .ensures)))
+    (central-opens _ _ _ _ _ _ _ (d .due .result) (d .due .ensures) (a .due2 .given .0 .0) (a .due2 .given .1) _ _ _ (search needs) (search needs) (search needs) (ap (toldOf _) (m .last .ensures)))
 
 returns-7 : tie.Need-returns-7
 returns-7 c =
@@ -82,10 +74,9 @@ returns-7 c =
     let a : tie.After-due2 = search needs in
     let b : tie.At-match2-rest = search needs in
     let p = place (search needs) in
-    let g : tie.After-leaves2 = search needs in
     let m : tie.After-last2 = search needs in
     rw (c .of7 .ensures)
-    (central-leaves _ _ _ _ _ _ _ (d .due .result) (d .due .ensures) (a .due2 .given .0 .0) (a .due2 .given .1) _ _ _ (search needs) (search needs) (search needs) (rw (view-at 1 p) (search needs)) refl (g .leaves2 .ensures) (ap (toldOf _) (m .last2 .ensures)))
+    (central-leaves _ _ _ _ _ _ _ (d .due .result) (d .due .ensures) (a .due2 .given .0 .0) (a .due2 .given .1) _ _ _ (search needs) (search needs) (search needs) (rw (view-at 1 p) (search needs)) refl (search needs) (ap (toldOf _) (m .last2 .ensures)))
 
 returns-8 : tie.Need-returns-8
 returns-8 c =

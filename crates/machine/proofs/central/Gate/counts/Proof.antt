@@ -1,6 +1,6 @@
 -- `machine::central::Gate::counts` meets its contract.
 use borrow.Author.Needs.{needs}
-use mathlib.Core.Path.{_≡_, refl, ap, _∙_}
+use mathlib.Core.Path.{_≡_, refl}
 use Rattle.rules.proofs.Views.{Place, view-put, view-at}
 use Rattle.machine.proofs.CentralTurns.{same-state}
 use Rattle.machine.proofs.central.Gate.counts.Statement.{statement}
