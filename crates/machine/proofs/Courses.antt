@@ -43,7 +43,8 @@ module _ (c : Course) (i rounds : ℕ) (r : Rows c i) where
     unfolding view
     due-step a = (l, view-at 1 (r .at), rw (ne-eqb _ _ a))
 
--- a hold turn has something to take away
-pub held-some : (c : Course) (i rounds : ℕ) (what : Due) → Dues (courseOf c) i rounds what → what ≡ Hold → 0 < getD (c .left) i 0
+-- a hold turn has something to take away: c is at, the row of hold turns and done
+pub held-some : (c : (ℕ → ℕ) × List ℕ × (ℕ → ℕ)) (i rounds : ℕ) (what : Due) → Dues (record { at = c .0; left = view 0 (c .1); done = c .2 }) i rounds what
+    → what ≡ Hold → 0 < getD (c .1) i 0
 unfolding view
 held-some c i rounds what e f = rw f at e

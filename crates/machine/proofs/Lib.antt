@@ -4,3 +4,4 @@ pub mod Counting
 pub mod Looping
 pub mod TicketTurns
 pub mod McsTurns
+pub mod CentralTurns

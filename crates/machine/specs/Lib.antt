@@ -3,3 +3,4 @@ pub mod CountView
 pub mod PlayView
 pub mod TicketView
 pub mod McsView
+pub mod CentralView

@@ -6,8 +6,10 @@ ghost use Rattle.rules.specs.Memory.{upd};
 ghost use Rattle.rules.specs.Course.{outset};
 ghost use Rattle.machine.specs.View.{courseOf, Dues};
 
+// gap is 0. It parts the rows: the compiler then copies only those that a turn changes.
 pub(crate) struct Course {
     done: [u16; 64],
+    gap: u8,
     at: [u8; 64],
     left: [u8; 64],
 }
@@ -26,6 +28,7 @@ impl Course {
     {
         Course {
             done: [0; 64],
+            gap: 0,
             at: [1; 64],
             left: [0; 64],
         }
@@ -59,7 +62,12 @@ impl Course {
         let at = self.at;
         let mut left = self.left;
         left[i] = left[i] - 1;
-        Course { done, at, left }
+        Course {
+            done,
+            gap: 0,
+            at,
+            left,
+        }
     }
 
     // Processor i goes to this step.
@@ -71,7 +79,12 @@ impl Course {
         let mut at = self.at;
         at[i] = step;
         let left = self.left;
-        Course { done, at, left }
+        Course {
+            done,
+            gap: 0,
+            at,
+            left,
+        }
     }
 
     // Processor i is granted the lock: it goes to this step, after its hold turns.
@@ -84,7 +97,12 @@ impl Course {
         at[i] = step;
         let mut left = self.left;
         left[i] = hold;
-        Course { done, at, left }
+        Course {
+            done,
+            gap: 0,
+            at,
+            left,
+        }
     }
 
     // Processor i's passage is done.
@@ -97,7 +115,12 @@ impl Course {
         let mut at = self.at;
         at[i] = 1;
         let left = self.left;
-        Course { done, at, left }
+        Course {
+            done,
+            gap: 0,
+            at,
+            left,
+        }
     }
 
     // Processor i leaves the barrier: its passage is done, and its hold turns follow.
@@ -111,6 +134,11 @@ impl Course {
         at[i] = 1;
         let mut left = self.left;
         left[i] = hold;
-        Course { done, at, left }
+        Course {
+            done,
+            gap: 0,
+            at,
+            left,
+        }
     }
 }

@@ -1,4 +1,5 @@
 // The machines, one turn at a time, and the run over a schedule.
+mod central;
 mod counts;
 mod course;
 mod loops;
