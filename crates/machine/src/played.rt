@@ -1,4 +1,7 @@
-// What a run over a schedule gives, in plain numbers: six for each processor.
+// What a run over a schedule gives, in plain numbers.
+ghost use mathlib.Core.Path.{_≡_};
+
+// taken: turns. events: how many. sums: six numbers for each processor.
 pub(crate) struct Played {
     pub(crate) stop: u8,
     pub(crate) taken: usize,
