@@ -1,3 +1,4 @@
 pub mod Courses
 pub mod Turning
 pub mod TicketTurns
+pub mod DissemTurns

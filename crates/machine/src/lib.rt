@@ -2,3 +2,5 @@
 mod course;
 mod made;
 mod ticket;
+mod levels;
+mod dissem;
