@@ -87,7 +87,11 @@ impl Flags {
         let o = own[i];
         let mut flags = self.flags;
         flags[j] = with_bit(flags[j], variable(o), sense(o));
-        Flags { flags, gap: self.gap, own }
+        Flags {
+            flags,
+            gap: self.gap,
+            own,
+        }
     }
 
     // Processor i goes to the next round.
@@ -98,7 +102,11 @@ impl Flags {
         let flags = self.flags;
         let mut own = self.own;
         own[i] = own[i] + 4;
-        Flags { flags, gap: self.gap, own }
+        Flags {
+            flags,
+            gap: self.gap,
+            own,
+        }
     }
 
     fn leaves(self, i: usize) -> Flags
@@ -108,7 +116,11 @@ impl Flags {
         let flags = self.flags;
         let mut own = self.own;
         own[i] = left(own[i]);
-        Flags { flags, gap: self.gap, own }
+        Flags {
+            flags,
+            gap: self.gap,
+            own,
+        }
     }
 }
 
@@ -116,7 +128,11 @@ impl Dissem {
     fn of(flags: Flags, course: Course, made: Made) -> Dissem
         ensures { λ r. ⌜ r ≡ record { flags = flags; course = course; made = made } ⌝ }
     {
-        Dissem { flags, course, made }
+        Dissem {
+            flags,
+            course,
+            made,
+        }
     }
 
     pub(crate) fn start() -> Dissem
@@ -173,11 +189,7 @@ impl Dissem {
                             made::last(w, made::LEAVE),
                         );
                     }
-                    return Dissem::of(
-                        flags.goes_on(i),
-                        course.goes(i, 3),
-                        made::later(w, 0, 0),
-                    );
+                    return Dissem::of(flags.goes_on(i), course.goes(i, 3), made::later(w, 0, 0));
                 }
                 return Dissem::of(flags, course, made::spin(w));
             }
