@@ -2,17 +2,21 @@
 use mathlib.Core.Path.{_≡_, refl, sym, ap, ap₂, _∙_, fun-ext}
 use mathlib.Core.Logic.{_≢_}
 use mathlib.Core.Bool.{Bool, true, false}
+use mathlib.Core.List.{List}
 use Prim.Native.Nat.{ℕ, zero, suc, _+_, _-_, _*_, _/_, _%_, _^_, _≤_, _<_}
 use native.Mathlib.Decide.{ℕ-discrete, decLt}
 use native.Mathlib.Nat.{one-mul, pow-suc, mul-mod-left, div-eq-of-lt, zero-div, mod-lt}
 use native.Mathlib.Omega.{arith}
 use lib.Bits.{bitXor, xor-shr, xor-mod, xor-zero-r}
 use lib.Dec.{eqb}
+use lib.ListN.{getD, replicate}
 use lib.Pow.{pow-add, pow-lt, pow-mono, shl-exact, shl-shr}
 use Rattle.rules.specs.Memory.{pick, upd, each}
-use Rattle.rules.specs.Dissem.{State}
+use Rattle.rules.specs.Settings.{Settings}
+use Rattle.rules.specs.Dissem.{State, start}
 use Rattle.rules.proofs.Store.{upd-same, upd-other}
-use Rattle.machine.specs.DissemView.{senseOf, parityOf, roundOf, bits}
+use Rattle.rules.proofs.Views.{view, Place, view-at, view-blank}
+use Rattle.machine.specs.DissemView.{senseOf, parityOf, roundOf, bits, flagsOf}
 
 pub same-flags : (a b : State) → a .flag ≡ b .flag → a .sense ≡ b .sense → a .parity ≡ b .parity → a .round ≡ b .round → a ≡ b
 same-flags a b p q r s = λ j. record { flag = p j; sense = q j; parity = r j; round = s j }
@@ -89,3 +93,22 @@ left-is own r p s e hp hs a b d =
     let is-p : parityOf own ≡ p = omega arith in
     let is-s : senseOf own ≡ s = omega arith in
     rw (is-p, is-s) (a, b, d)
+
+-- ---- the rows
+
+-- a processor's own flag, and its sense, as the code reads them
+pub read-flag : {words own : List ℕ} {i v b : ℕ} → Place words i → Place own i → v ≡ 2 * roundOf (getD own i 0) + parityOf (getD own i 0)
+    → b ≡ bits (getD words i 0) v → bits (view 0 words i) (2 * roundOf (view 1 own i) + parityOf (view 1 own i)) ≡ b
+read-flag q p e f = rw (view-at 0 q, view-at 1 p, ← e) (sym f)
+
+pub read-sense : {own : List ℕ} {i s : ℕ} → Place own i → s ≡ senseOf (getD own i 0) → senseOf (view 1 own i) ≡ s
+read-sense p e = rw (view-at 1 p) (sym e)
+
+pub first-flags : (s : Settings) → flagsOf (record { flags = replicate 64 0; gap = 0; own = replicate 64 1 }) ≡ start s
+first-flags s =
+    same-flags _ _ (ap {B = ℕ → ℕ → ℕ} (λ (f : ℕ → ℕ) (i : ℕ). bits (f i)) (view-blank 64 0) ∙ ap {B = ℕ → ℕ → ℕ} (λ (b : ℕ → ℕ) (i : ℕ). b) bits-zero)
+    (ap {B = ℕ → ℕ} (λ (f : ℕ → ℕ) (i : ℕ). senseOf (f i)) (view-blank 64 1)) (ap {B = ℕ → ℕ} (λ (f : ℕ → ℕ) (i : ℕ). parityOf (f i)) (view-blank 64 1))
+    (ap {B = ℕ → ℕ} (λ (f : ℕ → ℕ) (i : ℕ). roundOf (f i)) (view-blank 64 1))
+
+pub first-round : (i : ℕ) → roundOf (view 1 (replicate 64 1) i) ≡ 0
+first-round i = ap (λ (f : ℕ → ℕ). roundOf (f i)) (view-blank 64 1)

@@ -4,7 +4,7 @@ use crate::course::Due;
 use crate::made;
 use crate::made::Made;
 ghost use mathlib.Core.Path.{_≡_};
-ghost use Prim.Native.Nat.{_<_, _≤_, _+_, _-_, _*_, _/_, _%_, _^_};
+ghost use Prim.Native.Nat.{ℕ, _<_, _≤_, _+_, _-_, _*_, _/_, _%_, _^_};
 ghost use lib.Dec.{eqb};
 ghost use lib.ListN.{getD};
 ghost use Rattle.rules.specs.Memory.{pick, upd};
@@ -136,7 +136,7 @@ impl Dissem {
     }
 
     pub(crate) fn start() -> Dissem
-        ensures { λ r. ⌜ Starts machine (λ s. Unit) (flagsOf (r .flags)) (courseOf (r .course)) ⌝ }
+        ensures { λ r. ⌜ Starts machine (λ s. Unit {0}) (flagsOf (r .flags)) (courseOf (r .course)) × ((levels : ℕ) → Sound levels (flagsOf (r .flags)) (courseOf (r .course))) ⌝ }
     {
         let flags = Flags {
             flags: [0; 64],

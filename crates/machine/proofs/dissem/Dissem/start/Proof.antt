@@ -1,27 +1,22 @@
+-- `machine::dissem::Dissem::start` meets its contract.
 use borrow.Author.Needs.{needs}
+use mathlib.Core.Path.{_≡_, refl, ap}
+use Prim.Native.Nat.{ℕ}
+use Rattle.rules.specs.Course.{Course}
+use Rattle.machine.proofs.DissemFlags.{first-flags, first-round}
+use Rattle.machine.proofs.DissemTurns.{sound-first}
 use Rattle.machine.proofs.dissem.Dissem.start.Statement.{statement}
 use Rattle.machine.proofs.dissem.Dissem.start.Tie as tie
-use Rattle.machine.proofs.dissem.Dissem.start.Reads as reads
-use Rattle.machine.proofs.dissem.Dissem.start.Lts as lts
-use Rattle.machine.proofs.course.Course.start.Reads as start-reads
-use Rattle.machine.proofs.dissem.Dissem.of.Reads as of-reads
-use Rattle.machine.proofs.made.none.Reads as none-reads
 
--- src/dissem.rt:130:27
-start-requires : tie.Need-start-requires
-start-requires c κs = search needs
-
--- src/dissem.rt:130:44
-none-requires : tie.Need-none-requires
-none-requires c κs = search needs
-
--- src/dissem.rt:130:9
-of-requires : tie.Need-of-requires
-of-requires c κs = search needs
-
--- src/dissem.rt:122:5
 returns : tie.Need-returns
-returns c = search needs
+returns c =
+    let k : tie.After-start = search needs in
+    rw (c .of .ensures) (
+      record { memory = λ s p. first-flags s; outset = k .start .ensures },
+      λ levels. sound-first levels _ _ (λ j. ap (λ (y : Course). y .at j) (k .start .ensures)) first-round,
+    )
 
 pub start-spec : {M : Type 1} → statement M
-start-spec = tie.close (tie.spec start-requires none-requires of-requires returns)
+start-spec =
+    tie.close
+    (tie.spec (λ c κs. search needs) (λ c κs. search needs) (λ c κs. search needs) returns)
