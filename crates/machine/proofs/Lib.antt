@@ -5,3 +5,5 @@ pub mod Looping
 pub mod TicketTurns
 pub mod McsTurns
 pub mod CentralTurns
+pub mod DissemFlags
+pub mod DissemTurns

@@ -4,3 +4,4 @@ pub mod PlayView
 pub mod TicketView
 pub mod McsView
 pub mod CentralView
+pub mod DissemView

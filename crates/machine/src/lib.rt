@@ -2,6 +2,8 @@
 mod central;
 mod counts;
 mod course;
+mod dissem;
+mod levels;
 mod loops;
 mod made;
 mod mcs;

@@ -3,6 +3,8 @@ use crate::central::Central;
 use crate::counts::count;
 use crate::counts::far_of;
 use crate::counts::note;
+use crate::dissem::Dissem;
+use crate::levels::levels;
 use crate::mcs::Mcs;
 use crate::played::End;
 use crate::played::Played;
@@ -12,6 +14,7 @@ ghost use lib.ListN.{length};
 ghost use Rattle.rules.specs.Ticket as ticket;
 ghost use Rattle.rules.specs.Mcs as mcs;
 ghost use Rattle.rules.specs.Central as central;
+ghost use Rattle.rules.specs.Dissem as dissem;
 ghost use Rattle.settings.specs.View.{settingsOf};
 ghost use Rattle.machine.specs.PlayView.{Ready, PlayedIs};
 
@@ -107,6 +110,44 @@ pub(crate) fn play_central(s: Settings, schedule: &[u16], events: &mut [u16]) ->
         let w = schedule[k];
         let i = w as usize;
         machine = machine.turn(w, s.home, s.procs, rounds[i], hold[i] as u8);
+        let made = machine.made;
+        let far = far_of(made.owner, w) as u32;
+        if s.budget < total + far {
+            break End { stop: 1, taken: k };
+        }
+        total = total + far;
+        count(&mut sums, w, made);
+        n = note(events, n, w, made);
+        k = k + 1;
+    };
+    Played {
+        stop: end.stop,
+        taken: end.taken,
+        events: n,
+        total,
+        sums,
+    }
+}
+
+pub(crate) fn play_dissem(s: Settings, schedule: &[u16], events: &mut [u16]) -> Played
+    requires { ⌜ Ready (settingsOf s) (now schedule) (length (now events)) ⌝ }
+    ensures { λ r. ⌜ PlayedIs dissem.machine (settingsOf s) (now (schedule .entry)) (now (events .entry)) (now (events .exit)) r ⌝ }
+{
+    let rounds = s.rounds;
+    let hold = s.hold;
+    let levels = levels(s.procs);
+    let mut machine = Dissem::start();
+    let mut sums = [0; 384];
+    let mut total: u32 = 0;
+    let mut n: usize = 0;
+    let mut k: usize = 0;
+    let end = loop {
+        if k == schedule.len() {
+            break End { stop: 0, taken: k };
+        }
+        let w = schedule[k];
+        let i = w as usize;
+        machine = machine.turn(w, s.procs, levels, rounds[i], hold[i] as u8);
         let made = machine.made;
         let far = far_of(made.owner, w) as u32;
         if s.budget < total + far {

@@ -99,3 +99,18 @@ pub(crate) fn last(owner: u16, kind: u8) -> Made
         idle: false,
     }
 }
+
+// The only turn of a passage of processor w, without access: it arrives and leaves.
+pub(crate) fn alone(w: u16) -> Made
+    ensures { λ r. ⌜ r ≡ record { owner = w; first = 4; second = 5; began = true; done = true; spin = false; idle = false } ⌝ }
+{
+    Made {
+        owner: w,
+        first: ARRIVE,
+        second: LEAVE,
+        began: true,
+        done: true,
+        spin: false,
+        idle: false,
+    }
+}

@@ -7,3 +7,4 @@ pub mod Counts
 pub mod Views
 pub mod Turned
 pub mod Going
+pub mod Levels

@@ -87,3 +87,22 @@ over-next es new l e f h = rw (e, f) (more es new l h)
     more es new l h =
         let k : length es + length new ≤ length (over es l) = simp (length-append, length-drop) (omega arith) in
         rw (sets-eq new (over es l) (length es) k) (simp (take-append-seam, drop-append-add, drop-drop, append-assoc, length-append))
+
+-- ---- a part of each number of a row, as a bit of it
+
+module _ {B : Type 0} (part : ℕ → B) {row : List ℕ} {i : ℕ} (start : ℕ) (p : Place row i) {v : ℕ} where
+  -- the part of the number that is stored
+  pub view-part : {u : B} → part v ≡ u → _≡_ {A = ℕ → B} (λ j. part (view start (set row i v) j)) (upd (λ j. part (view start row j)) i u)
+  view-part {u} e = fun-ext (λ j. go j (ℕ-discrete j i))
+    where
+      go : (j : ℕ) → Dec (j ≡ i) → part (view start (set row i v) j) ≡ upd (λ j. part (view start row j)) i u j
+      go j (yes d) = rw (view-set start row i v (p .below), d, upd-same (view start row) i v, upd-same (λ j. part (view start row j)) i u) e
+      go j (no n) = rw (view-set start row i v (p .below), upd-other (view start row) i v j n, upd-other (λ j. part (view start row j)) i u j n)
+
+  -- a part that the store leaves as it was
+  pub view-rest : part v ≡ part (view start row i) → _≡_ {A = ℕ → B} (λ j. part (view start (set row i v) j)) (λ j. part (view start row j))
+  view-rest e = fun-ext (λ j. go j (ℕ-discrete j i))
+    where
+      go : (j : ℕ) → Dec (j ≡ i) → part (view start (set row i v) j) ≡ part (view start row j)
+      go j (yes d) = rw (view-set start row i v (p .below), d, upd-same (view start row) i v) e
+      go j (no n) = rw (view-set start row i v (p .below), upd-other (view start row) i v j n)
