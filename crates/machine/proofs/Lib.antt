@@ -2,6 +2,7 @@ pub mod Courses
 pub mod Turning
 pub mod Counting
 pub mod Looping
+pub mod Deciding
 pub mod TicketTurns
 pub mod McsTurns
 pub mod CentralTurns
