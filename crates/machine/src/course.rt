@@ -6,9 +6,12 @@ ghost use Rattle.rules.specs.Memory.{upd};
 ghost use Rattle.rules.specs.Course.{outset};
 ghost use Rattle.machine.specs.View.{courseOf, Dues};
 
+// gap1, gap2: always 0. A number between two rows keeps them from being copied as one.
 pub(crate) struct Course {
     done: [u16; 64],
+    gap1: u16,
     at: [u8; 64],
+    gap2: u16,
     left: [u8; 64],
 }
 
@@ -26,7 +29,9 @@ impl Course {
     {
         Course {
             done: [0; 64],
+            gap1: 0,
             at: [1; 64],
+            gap2: 0,
             left: [0; 64],
         }
     }
@@ -59,7 +64,13 @@ impl Course {
         let at = self.at;
         let mut left = self.left;
         left[i] = left[i] - 1;
-        Course { done, at, left }
+        Course {
+            done,
+            gap1: 0,
+            at,
+            gap2: 0,
+            left,
+        }
     }
 
     // Processor i goes to this step.
@@ -71,7 +82,13 @@ impl Course {
         let mut at = self.at;
         at[i] = step;
         let left = self.left;
-        Course { done, at, left }
+        Course {
+            done,
+            gap1: 0,
+            at,
+            gap2: 0,
+            left,
+        }
     }
 
     // Processor i is granted the lock: it goes to this step, after its hold turns.
@@ -84,7 +101,13 @@ impl Course {
         at[i] = step;
         let mut left = self.left;
         left[i] = hold;
-        Course { done, at, left }
+        Course {
+            done,
+            gap1: 0,
+            at,
+            gap2: 0,
+            left,
+        }
     }
 
     // Processor i's passage is done.
@@ -97,7 +120,13 @@ impl Course {
         let mut at = self.at;
         at[i] = 1;
         let left = self.left;
-        Course { done, at, left }
+        Course {
+            done,
+            gap1: 0,
+            at,
+            gap2: 0,
+            left,
+        }
     }
 
     // Processor i leaves the barrier: its passage is done, and its hold turns follow.
@@ -111,6 +140,12 @@ impl Course {
         at[i] = 1;
         let mut left = self.left;
         left[i] = hold;
-        Course { done, at, left }
+        Course {
+            done,
+            gap1: 0,
+            at,
+            gap2: 0,
+            left,
+        }
     }
 }

@@ -32,7 +32,7 @@ held-requires : tie.Need-held-requires
 held-requires c κs =
     let d : tie.After-due = search needs in
     let z : tie.Start = search needs in
-    (search needs, held-some _ _ _ (d .due .result) (d .due .ensures) (search needs))
+    (search needs, held-some (z .args .self .course) _ _ (d .due .result) (d .due .ensures) (search needs))
 
 returns : tie.Need-returns
 returns c =
