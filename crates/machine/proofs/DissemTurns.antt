@@ -1,6 +1,5 @@
 -- Laws for the dissemination barrier's `turn`: one for each way that it goes.
 use mathlib.Core.Path.{_≡_, refl, sym, ap, _∙_, fun-ext}
-use mathlib.Core.Logic.{_≢_}
 use mathlib.Core.Bool.{Bool, true, false}
 use mathlib.Core.List.{List, [], _∷_}
 use Prim.Native.Nat.{ℕ, _+_, _-_, _*_, _%_, _^_, _≤_, _<_}
@@ -51,10 +50,6 @@ module _ (levels w : ℕ) (x x′ : State) (c c′ : Course) (sound : Sound leve
 pub sound-first : (levels : ℕ) (x : State) (c : Course) → ((j : ℕ) → c .at j ≡ 1) → ((j : ℕ) → x .round j ≡ 0) → Sound levels x c
 sound-first levels x c a b = record { between = λ j e. b j; within = λ j n. absurd (n (a j)) }
 
--- R is 6 at most
-pub levels≤ : (levels procs : ℕ) → levels ≡ doublings procs → procs ≤ 64 → levels ≤ 6
-levels≤ levels procs e h = rw e (doublings≤ procs h)
-
 -- the round that a step finds
 module _ (levels w rounds : ℕ) (x : State) (c : Course) (sound : Sound levels x c) (what : Due) (e : Dues c w rounds what) (k : ℕ) (f : what ≡ due.Step k) where
   at-k : c .at w ≡ k
@@ -63,8 +58,11 @@ module _ (levels w rounds : ℕ) (x : State) (c : Course) (sound : Sound levels 
   pub round-first : k ≡ 1 → x .round w ≡ 0
   round-first z = sound .between w (at-k ∙ z)
 
-  pub round-below : (k ≡ 1 → ⊥) → x .round w < levels
+  round-below : (k ≡ 1 → ⊥) → x .round w < levels
   round-below n = sound .within w (λ z. n (sym at-k ∙ z))
+
+  pub round<6 : (procs : ℕ) → levels ≡ doublings procs → procs ≤ 64 → (k ≡ 1 → ⊥) → x .round w < 6
+  round<6 procs lv h n = omega (arith, round-below n, doublings≤ procs h)
 
 -- ---- the ways
 
