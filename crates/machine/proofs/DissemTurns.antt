@@ -1,6 +1,5 @@
 -- Laws for the dissemination barrier's `turn`: one for each way that it goes.
 use mathlib.Core.Path.{_≡_, refl, sym, ap, _∙_, fun-ext}
-use mathlib.Core.Logic.{_≢_}
 use mathlib.Core.Bool.{Bool, true, false}
 use mathlib.Core.List.{List, [], _∷_}
 use Prim.Native.Nat.{ℕ, _+_, _-_, _*_, _%_, _^_, _≤_, _<_}
@@ -51,10 +50,6 @@ module _ (levels w : ℕ) (x x′ : State) (c c′ : Course) (sound : Sound leve
 pub sound-first : (levels : ℕ) (x : State) (c : Course) → ((j : ℕ) → c .at j ≡ 1) → ((j : ℕ) → x .round j ≡ 0) → Sound levels x c
 sound-first levels x c a b = record { between = λ j e. b j; within = λ j n. absurd (n (a j)) }
 
--- R is 6 at most
-pub levels≤ : (levels procs : ℕ) → levels ≡ doublings procs → procs ≤ 64 → levels ≤ 6
-levels≤ levels procs e h = rw e (doublings≤ procs h)
-
 -- the round that a step finds
 module _ (levels w rounds : ℕ) (x : State) (c : Course) (sound : Sound levels x c) (what : Due) (e : Dues c w rounds what) (k : ℕ) (f : what ≡ due.Step k) where
   at-k : c .at w ≡ k
@@ -63,8 +58,11 @@ module _ (levels w rounds : ℕ) (x : State) (c : Course) (sound : Sound levels 
   pub round-first : k ≡ 1 → x .round w ≡ 0
   round-first z = sound .between w (at-k ∙ z)
 
-  pub round-below : (k ≡ 1 → ⊥) → x .round w < levels
+  round-below : (k ≡ 1 → ⊥) → x .round w < levels
   round-below n = sound .within w (λ z. n (sym at-k ∙ z))
+
+  pub round<6 : (procs : ℕ) → levels ≡ doublings procs → procs ≤ 64 → (k ≡ 1 → ⊥) → x .round w < 6
+  round<6 procs lv h n = omega (arith, round-below n, doublings≤ procs h)
 
 -- ---- the ways
 
@@ -90,91 +88,90 @@ module _ (w procs levels rounds hold : ℕ) (x : State) (c : Course) (lv : level
       sound-same levels w x x′ c c′ sound (ap (λ (z : Course). z .at) b) (ap (λ (z : State). z .round) a),
     )
 
-  module _ (k : ℕ) (f : what ≡ due.Step k) where
-    module _ (x′ : State) (c′ : Course) (d : Told) where
-      -- what is told of an access to a variable of this processor's
-      abbrev touches : ℕ → List ℕ → (began done spin : Bool) → Told
-      touches owner codes began done spin = record { far = pick (eqb owner w) 0 1; codes = codes; began = began; done = done; spin = spin; idle = false }
+  module _ (k : ℕ) (f : what ≡ due.Step k) (x′ : State) (c′ : Course) (d : Told) where
+    -- what is told of an access to a variable of this processor's
+    abbrev touches : ℕ → List ℕ → (began done spin : Bool) → Told
+    touches owner codes began done spin = record { far = pick (eqb owner w) 0 1; codes = codes; began = began; done = done; spin = spin; idle = false }
 
-      abbrev left-course : Course
-      left-course = record { at = upd (c .at) w 1; left = upd (c .left) w hold; done = upd (c .done) w (c .done w + 1) }
+    abbrev left-course : Course
+    left-course = record { at = upd (c .at) w 1; left = upd (c .left) w hold; done = upd (c .done) w (c .done w + 1) }
 
-      abbrev at-step : ℕ → Course
-      at-step k = record { at = upd (c .at) w k; left = c .left; done = c .done }
+    abbrev at-step : ℕ → Course
+    at-step k = record { at = upd (c .at) w k; left = c .left; done = c .done }
 
-      pub dissem-alone : k ≡ 1 → procs ≡ 1 → x′ ≡ x → c′ ≡ left-course → d ≡ touches w ((1024 + w) ∷ (1280 + w) ∷ []) true true false → Goes x′ c′ d
+    pub dissem-alone : k ≡ 1 → procs ≡ 1 → x′ ≡ x → c′ ≡ left-course → d ≡ touches w ((1024 + w) ∷ (1280 + w) ∷ []) true true false → Goes x′ c′ d
+    unfolding step remote
+    dissem-alone z n a b g = (
+      turns-leave machine (At procs) w rounds hold x c what e x′ c′ d k f (λ s. alone x) (λ s p. rw (z, p, n) refl) (λ s p. a)
+          (λ s p. rw z (g ∙ rw (eq-eqb w w refl) refl)) (λ s. refl) (λ s. refl) b,
+      sound-at levels w x x′ c c′ sound 1 0 (ap (λ (y : Course). y .at) b) (ap (λ (y : State). y .round) a ∙ kept (x .round) w 0 (round-first levels w rounds x c sound what e k f z)) (λ q. refl)
+          (λ q. absurd (q refl)),
+    )
+
+    -- the partner's flag is written
+    module _ (j : ℕ) (a : x′ ≡ record {
+      flag = upd (x .flag) j (upd (x .flag j) (2 * x .round w + x .parity w) (x .sense w));
+      sense = x .sense;
+      parity = x .parity;
+      round = x .round;
+    })
+        (b : c′ ≡ at-step 2) where
+      memory : (r : ℕ) (says : Says) (s : Settings) → s .procs ≡ procs → x .round w ≡ r → j ≡ (w + 2 ^ r) % procs → x′ ≡ tells r says s x w .memory
+      memory r says s p q t = rw (p, ← t, ← kept (x .round) w r q, ← q) a
+
+      told-sound : x .round w < levels → Sound levels x′ c′
+      told-sound h =
+          sound-at levels w x x′ c c′ sound 2 (x .round w) (ap (λ (y : Course). y .at) b) (ap (λ (y : State). y .round) a ∙ kept (x .round) w (x .round w) refl)
+          (λ q. absurd (omega arith)) (λ q. h)
+
+      pub dissem-first : k ≡ 1 → (procs ≡ 1 → ⊥) → 0 < procs → j ≡ (w + 2 ^ 0) % procs → d ≡ touches j ((1024 + w) ∷ []) true false false → Goes x′ c′ d
       unfolding step remote
-      dissem-alone z n a b g = (
-        turns-leave machine (At procs) w rounds hold x c what e x′ c′ d k f (λ s. alone x) (λ s p. rw (z, p, n) refl) (λ s p. a)
-            (λ s p. rw z (g ∙ rw (eq-eqb w w refl) refl)) (λ s. refl) (λ s. refl) b,
-        sound-at levels w x x′ c c′ sound 1 0 (ap (λ (y : Course). y .at) b) (ap (λ (y : State). y .round) a ∙ kept (x .round) w 0 (round-first levels w rounds x c sound what e k f z)) (λ q. refl)
-            (λ q. absurd (q refl)),
+      dissem-first z n pos t g =
+          let q : x .round w ≡ 0 = round-first levels w rounds x c sound what e k f z in (
+            turns-to machine (At procs) w rounds hold x c what e x′ c′ d k f (λ s. tells 0 (one arrive) s x w) (λ s p. rw (z, p, ne-eqb _ _ n) refl)
+                (λ s p. memory 0 (one arrive) s p q t) (λ s p. rw (z, p, ← t) g) 2 (λ s. refl) (λ s. refl) b,
+            told-sound (rw (q, lv) (some-rounds procs (omega arith))),
+          )
+
+      pub dissem-tells : (k ≡ 1 → ⊥) → (k ≡ 2 → ⊥) → j ≡ (w + 2 ^ x .round w) % procs → d ≡ touches j [] false false false → Goes x′ c′ d
+      unfolding step remote
+      dissem-tells y z t g = (
+        turns-to machine (At procs) w rounds hold x c what e x′ c′ d k f (λ s. tells (x .round w) nothing s x w) (λ s p. rw (ne-eqb _ _ y, ne-eqb _ _ z) refl)
+            (λ s p. memory (x .round w) nothing s p refl t) (λ s p. rw (ne-eqb _ _ y, p, ← t) g) 2 (λ s. refl) (λ s. refl) b,
+        told-sound (round-below levels w rounds x c sound what e k f y),
       )
 
-      -- the partner's flag is written
-      module _ (j : ℕ) (a : x′ ≡ record {
-        flag = upd (x .flag) j (upd (x .flag j) (2 * x .round w + x .parity w) (x .sense w));
-        sense = x .sense;
-        parity = x .parity;
-        round = x .round;
-      })
-          (b : c′ ≡ at-step 2) where
-        memory : (r : ℕ) (says : Says) (s : Settings) → s .procs ≡ procs → x .round w ≡ r → j ≡ (w + 2 ^ r) % procs → x′ ≡ tells r says s x w .memory
-        memory r says s p q t = rw (p, ← t, ← kept (x .round) w r q, ← q) a
+    -- the own flag is read
+    module _ (z : k ≡ 2) where
+      pub dissem-spins : (x .flag w (2 * x .round w + x .parity w) ≡ x .sense w → ⊥) → x′ ≡ x → c′ ≡ c → d ≡ touches w [] false false true → Goes x′ c′ d
+      unfolding step remote
+      dissem-spins n a b g = (
+        turns-stay machine (At procs) w rounds hold x c what e x′ c′ d k f (λ s. waits false (eqb (x .round w + 1) (doublings (s .procs))) x w)
+            (λ s p. rw (z, ne-eqb _ _ n) refl) (λ s p. a) (λ s p. rw z g) (λ s. refl) (λ s. refl) b,
+        sound-same levels w x x′ c c′ sound (ap (λ (y : Course). y .at) b) (ap (λ (y : State). y .round) a),
+      )
 
-        told-sound : x .round w < levels → Sound levels x′ c′
-        told-sound h =
-            sound-at levels w x x′ c c′ sound 2 (x .round w) (ap (λ (y : Course). y .at) b) (ap (λ (y : State). y .round) a ∙ kept (x .round) w (x .round w) refl)
-            (λ q. absurd (omega arith)) (λ q. h)
+      pub dissem-goes-on : x .flag w (2 * x .round w + x .parity w) ≡ x .sense w → (x .round w + 1 ≡ levels → ⊥)
+          → x′ ≡ record { flag = x .flag; sense = x .sense; parity = x .parity; round = upd (x .round) w (x .round w + 1) } → c′ ≡ at-step 3
+          → d ≡ touches w [] false false false → Goes x′ c′ d
+      unfolding step remote
+      dissem-goes-on t n a b g = (
+        turns-to machine (At procs) w rounds hold x c what e x′ c′ d k f (λ s. waits true false x w)
+            (λ s p. rw (z, eq-eqb _ _ t, p, ← lv, ne-eqb _ _ n) refl) (λ s p. a) (λ s p. rw z g) 3 (λ s. refl) (λ s. refl) b,
+        sound-at levels w x x′ c c′ sound 3 (x .round w + 1) (ap (λ (y : Course). y .at) b) (ap (λ (y : State). y .round) a)
+            (λ q. absurd (omega arith)) (λ q. omega (arith, n, round-below levels w rounds x c sound what e k f (λ y. absurd (omega arith)))),
+      )
 
-        pub dissem-first : k ≡ 1 → (procs ≡ 1 → ⊥) → 0 < procs → j ≡ (w + 2 ^ 0) % procs → d ≡ touches j ((1024 + w) ∷ []) true false false → Goes x′ c′ d
-        unfolding step remote
-        dissem-first z n pos t g =
-            let q : x .round w ≡ 0 = round-first levels w rounds x c sound what e k f z in (
-              turns-to machine (At procs) w rounds hold x c what e x′ c′ d k f (λ s. tells 0 (one arrive) s x w) (λ s p. rw (z, p, ne-eqb _ _ n) refl)
-                  (λ s p. memory 0 (one arrive) s p q t) (λ s p. rw (z, p, ← t) g) 2 (λ s. refl) (λ s. refl) b,
-              told-sound (rw (q, lv) (some-rounds procs (omega arith))),
-            )
-
-        pub dissem-tells : (k ≡ 1 → ⊥) → (k ≡ 2 → ⊥) → j ≡ (w + 2 ^ x .round w) % procs → d ≡ touches j [] false false false → Goes x′ c′ d
-        unfolding step remote
-        dissem-tells y z t g = (
-          turns-to machine (At procs) w rounds hold x c what e x′ c′ d k f (λ s. tells (x .round w) nothing s x w) (λ s p. rw (ne-eqb _ _ y, ne-eqb _ _ z) refl)
-              (λ s p. memory (x .round w) nothing s p refl t) (λ s p. rw (ne-eqb _ _ y, p, ← t) g) 2 (λ s. refl) (λ s. refl) b,
-          told-sound (round-below levels w rounds x c sound what e k f y),
-        )
-
-      -- the own flag is read
-      module _ (z : k ≡ 2) where
-        pub dissem-spins : (x .flag w (2 * x .round w + x .parity w) ≡ x .sense w → ⊥) → x′ ≡ x → c′ ≡ c → d ≡ touches w [] false false true → Goes x′ c′ d
-        unfolding step remote
-        dissem-spins n a b g = (
-          turns-stay machine (At procs) w rounds hold x c what e x′ c′ d k f (λ s. waits false (eqb (x .round w + 1) (doublings (s .procs))) x w)
-              (λ s p. rw (z, ne-eqb _ _ n) refl) (λ s p. a) (λ s p. rw z g) (λ s. refl) (λ s. refl) b,
-          sound-same levels w x x′ c c′ sound (ap (λ (y : Course). y .at) b) (ap (λ (y : State). y .round) a),
-        )
-
-        pub dissem-goes-on : x .flag w (2 * x .round w + x .parity w) ≡ x .sense w → (x .round w + 1 ≡ levels → ⊥)
-            → x′ ≡ record { flag = x .flag; sense = x .sense; parity = x .parity; round = upd (x .round) w (x .round w + 1) } → c′ ≡ at-step 3
-            → d ≡ touches w [] false false false → Goes x′ c′ d
-        unfolding step remote
-        dissem-goes-on t n a b g = (
-          turns-to machine (At procs) w rounds hold x c what e x′ c′ d k f (λ s. waits true false x w)
-              (λ s p. rw (z, eq-eqb _ _ t, p, ← lv, ne-eqb _ _ n) refl) (λ s p. a) (λ s p. rw z g) 3 (λ s. refl) (λ s. refl) b,
-          sound-at levels w x x′ c c′ sound 3 (x .round w + 1) (ap (λ (y : Course). y .at) b) (ap (λ (y : State). y .round) a)
-              (λ q. absurd (omega arith)) (λ q. omega (arith, n, round-below levels w rounds x c sound what e k f (λ y. absurd (omega arith)))),
-        )
-
-        pub dissem-leaves : x .flag w (2 * x .round w + x .parity w) ≡ x .sense w → x .round w + 1 ≡ levels
-            → x′ ≡ record {
-              flag = x .flag;
-              sense = upd (x .sense) w (pick (eqb (x .parity w) 1) (1 - x .sense w) (x .sense w));
-              parity = upd (x .parity) w (1 - x .parity w);
-              round = upd (x .round) w 0;
-            } → c′ ≡ left-course → d ≡ touches w ((1280 + w) ∷ []) false true false → Goes x′ c′ d
-        unfolding step remote
-        dissem-leaves t n a b g = (
-          turns-leave machine (At procs) w rounds hold x c what e x′ c′ d k f (λ s. waits true true x w)
-              (λ s p. rw (z, eq-eqb _ _ t, p, ← lv, eq-eqb _ _ n) refl) (λ s p. a) (λ s p. rw z g) (λ s. refl) (λ s. refl) b,
-          sound-at levels w x x′ c c′ sound 1 0 (ap (λ (y : Course). y .at) b) (ap (λ (y : State). y .round) a) (λ q. refl) (λ q. absurd (q refl)),
-        )
+      pub dissem-leaves : x .flag w (2 * x .round w + x .parity w) ≡ x .sense w → x .round w + 1 ≡ levels
+          → x′ ≡ record {
+            flag = x .flag;
+            sense = upd (x .sense) w (pick (eqb (x .parity w) 1) (1 - x .sense w) (x .sense w));
+            parity = upd (x .parity) w (1 - x .parity w);
+            round = upd (x .round) w 0;
+          } → c′ ≡ left-course → d ≡ touches w ((1280 + w) ∷ []) false true false → Goes x′ c′ d
+      unfolding step remote
+      dissem-leaves t n a b g = (
+        turns-leave machine (At procs) w rounds hold x c what e x′ c′ d k f (λ s. waits true true x w)
+            (λ s p. rw (z, eq-eqb _ _ t, p, ← lv, eq-eqb _ _ n) refl) (λ s p. a) (λ s p. rw z g) (λ s. refl) (λ s. refl) b,
+        sound-at levels w x x′ c c′ sound 1 0 (ap (λ (y : Course). y .at) b) (ap (λ (y : State). y .round) a) (λ q. refl) (λ q. absurd (q refl)),
+      )

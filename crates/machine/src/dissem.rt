@@ -13,7 +13,7 @@ ghost use Rattle.machine.specs.View.{courseOf, toldOf, Starts, Turns};
 ghost use Rattle.machine.specs.DissemView.{senseOf, parityOf, roundOf, bits, flagsOf, Sound};
 
 // flags: of each processor its flags, variable v as bit v. own: its round * 4 + parity * 2 + sense.
-// gap: a number between the rows keeps them from being copied as one.
+// gap: always 0. A number between two rows keeps them from being copied as one.
 pub(crate) struct Flags {
     flags: [u16; 64],
     gap: u16,
@@ -87,11 +87,7 @@ impl Flags {
         let o = own[i];
         let mut flags = self.flags;
         flags[j] = with_bit(flags[j], variable(o), sense(o));
-        Flags {
-            flags,
-            gap: self.gap,
-            own,
-        }
+        Flags { flags, gap: 0, own }
     }
 
     // Processor i goes to the next round.
@@ -102,11 +98,7 @@ impl Flags {
         let flags = self.flags;
         let mut own = self.own;
         own[i] = own[i] + 4;
-        Flags {
-            flags,
-            gap: self.gap,
-            own,
-        }
+        Flags { flags, gap: 0, own }
     }
 
     fn leaves(self, i: usize) -> Flags
@@ -116,11 +108,7 @@ impl Flags {
         let flags = self.flags;
         let mut own = self.own;
         own[i] = left(own[i]);
-        Flags {
-            flags,
-            gap: self.gap,
-            own,
-        }
+        Flags { flags, gap: 0, own }
     }
 }
 

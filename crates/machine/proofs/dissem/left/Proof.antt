@@ -1,6 +1,5 @@
 -- `machine::dissem::left` meets its contract.
-use borrow.Author.Needs.{needs}
-use mathlib.Core.Path.{_≡_, refl}
+use mathlib.Core.Path.{refl}
 use native.Mathlib.Omega.{arith}
 use Rattle.machine.proofs.DissemFlags.{left-is}
 use Rattle.machine.proofs.dissem.left.Statement.{statement}

@@ -1,8 +1,7 @@
 -- `machine::dissem::partner` meets its contract.
 use borrow.Author.Needs.{needs}
-use mathlib.Core.Path.{_≡_, refl, sym, ap, _∙_}
+use mathlib.Core.Path.{refl}
 use native.Mathlib.Omega.{arith}
-use Prim.Native.Nat.{_<_, _≤_, _+_, _*_, _%_, _^_}
 use native.Mathlib.Nat.{mod-lt}
 use Rattle.machine.proofs.DissemFlags.{power, power≤}
 use Rattle.machine.proofs.dissem.partner.Statement.{statement}

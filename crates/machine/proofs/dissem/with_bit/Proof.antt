@@ -1,6 +1,6 @@
 -- `machine::dissem::with_bit` meets its contract.
 use borrow.Author.Needs.{needs}
-use mathlib.Core.Path.{_≡_, refl, sym, ap, _∙_}
+use mathlib.Core.Path.{sym, _∙_}
 use native.Mathlib.Omega.{arith}
 use Rattle.machine.proofs.DissemFlags.{bit-kept, bit-changed}
 use Rattle.machine.proofs.dissem.with_bit.Statement.{statement}

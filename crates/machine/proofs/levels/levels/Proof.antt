@@ -1,6 +1,6 @@
 -- `machine::levels::levels` meets its contract.
 use borrow.Author.Needs.{needs}
-use mathlib.Core.Path.{_≡_, refl, sym, ap, _∙_}
+use mathlib.Core.Path.{_≡_, _∙_}
 use native.Mathlib.Omega.{arith}
 use Prim.Native.Nat.{ℕ, _-_, _<_, _^_}
 use lib.Count.{leadingZeros, leading-le, leading-length}

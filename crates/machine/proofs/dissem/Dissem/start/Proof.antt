@@ -1,7 +1,6 @@
 -- `machine::dissem::Dissem::start` meets its contract.
 use borrow.Author.Needs.{needs}
-use mathlib.Core.Path.{_≡_, refl, ap}
-use Prim.Native.Nat.{ℕ}
+use mathlib.Core.Path.{ap}
 use Rattle.rules.specs.Course.{Course}
 use Rattle.machine.proofs.DissemFlags.{first-flags, first-round}
 use Rattle.machine.proofs.DissemTurns.{sound-first}

@@ -1,17 +1,16 @@
 -- `machine::dissem::Dissem::turn` meets its contract: each return is one way that a turn goes.
 use borrow.Author.Needs.{needs}
 use mathlib.Core.Path.{_≡_, refl, sym, ap, _∙_}
-use Prim.Native.Nat.{_<_, _≤_}
 use native.Mathlib.Omega.{arith}
 use lib.ListN.{length}
-use Rattle.rules.specs.Dissem.{machine, doublings}
-use Rattle.rules.proofs.Views.{view, Place, view-at}
+use Rattle.rules.specs.Dissem.{doublings}
+use Rattle.rules.proofs.Views.{Place, view-at}
 use Rattle.machine.specs.View.{courseOf, toldOf}
 use Rattle.machine.specs.DissemView.{flagsOf, Sound}
 use Rattle.machine.proofs.Courses.{held-some}
 use Rattle.machine.proofs.Turning.{told-none}
 use Rattle.machine.proofs.DissemFlags.{read-flag, read-sense}
-use Rattle.machine.proofs.DissemTurns.{levels≤, round-first, round-below, dissem-holds, dissem-idles, dissem-alone, dissem-first, dissem-tells, dissem-spins, dissem-goes-on, dissem-leaves}
+use Rattle.machine.proofs.DissemTurns.{round-first, round<6, dissem-holds, dissem-idles, dissem-alone, dissem-first, dissem-tells, dissem-spins, dissem-goes-on, dissem-leaves}
 use Rattle.machine.proofs.dissem.Dissem.turn.Statement.{statement}
 use Rattle.machine.proofs.dissem.Dissem.turn.Tie as tie
 
@@ -31,7 +30,6 @@ word-place z = let n : length (z .args .self .flags .flags) ≡ 64 = search need
 held-requires : tie.Need-held-requires
 held-requires c κs =
     let d : tie.After-due = search needs in
-    let z : tie.Start = search needs in
     (search needs, held-some _ _ _ (d .due .result) (d .due .ensures) (search needs))
 
 returns : tie.Need-returns
@@ -89,9 +87,8 @@ bit-requires c κs =
     let a : tie.After-due2 = search needs in
     let b : tie.At-match2-keys2 = search needs in
     let v : tie.After-variable = search needs in
-    let below = round-below _ _ _ _ _ (sound z) (d .due .result) (d .due .ensures) (a .due2 .given .0 .0) (a .due2 .given .1) (search needs) in
-    let few = levels≤ _ _ (rounds-are z) (search needs) in
-    omega (arith, below, few, v .variable .ensures, view-at 1 (own-place z))
+    let below = round<6 _ _ _ _ _ (sound z) (d .due .result) (d .due .ensures) (a .due2 .given .0 .0) (a .due2 .given .1) _ (rounds-are z) (search needs) (search needs) in
+    omega (arith, below, v .variable .ensures, view-at 1 (own-place z))
 
 returns-5 : tie.Need-returns-5
 returns-5 c =
@@ -116,9 +113,8 @@ goes-on-requires c κs =
     let z : tie.Start = search needs in
     let a : tie.After-due2 = search needs in
     let b : tie.At-match2-keys2 = search needs in
-    let below = round-below _ _ _ _ _ (sound z) (d .due .result) (d .due .ensures) (a .due2 .given .0 .0) (a .due2 .given .1) (search needs) in
-    let few = levels≤ _ _ (rounds-are z) (search needs) in
-    (search needs, omega (arith, below, few))
+    let below = round<6 _ _ _ _ _ (sound z) (d .due .result) (d .due .ensures) (a .due2 .given .0 .0) (a .due2 .given .1) _ (rounds-are z) (search needs) (search needs) in
+    (search needs, omega (arith, below))
 
 returns-6 : tie.Need-returns-6
 returns-6 c =
@@ -158,9 +154,8 @@ partner-requires-2 c κs =
     let d : tie.After-due = search needs in
     let z : tie.Start = search needs in
     let a : tie.After-due2 = search needs in
-    let below = round-below _ _ _ _ _ (sound z) (d .due .result) (d .due .ensures) (a .due2 .given .0 .0) (a .due2 .given .1) (search needs) in
-    let few = levels≤ _ _ (rounds-are z) (search needs) in
-    (search needs, search needs, omega (arith, below, few, view-at 1 (own-place z)))
+    let below = round<6 _ _ _ _ _ (sound z) (d .due .result) (d .due .ensures) (a .due2 .given .0 .0) (a .due2 .given .1) _ (rounds-are z) (search needs) (search needs) in
+    (search needs, search needs, omega (arith, below, view-at 1 (own-place z)))
 
 tells-requires-2 : tie.Need-tells-requires-2
 tells-requires-2 c κs =
@@ -168,9 +163,8 @@ tells-requires-2 c κs =
     let z : tie.Start = search needs in
     let a : tie.After-due2 = search needs in
     let j : tie.After-partner2 = search needs in
-    let below = round-below _ _ _ _ _ (sound z) (d .due .result) (d .due .ensures) (a .due2 .given .0 .0) (a .due2 .given .1) (search needs) in
-    let few = levels≤ _ _ (rounds-are z) (search needs) in
-    (search needs, search needs, omega (arith, below, few))
+    let below = round<6 _ _ _ _ _ (sound z) (d .due .result) (d .due .ensures) (a .due2 .given .0 .0) (a .due2 .given .1) _ (rounds-are z) (search needs) (search needs) in
+    (search needs, search needs, omega (arith, below))
 
 returns-8 : tie.Need-returns-8
 returns-8 c =

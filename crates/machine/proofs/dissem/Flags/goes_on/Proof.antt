@@ -1,6 +1,6 @@
 -- `machine::dissem::Flags::goes_on` meets its contract.
 use borrow.Author.Needs.{needs}
-use mathlib.Core.Path.{_≡_, refl, sym, ap, _∙_}
+use mathlib.Core.Path.{refl}
 use native.Mathlib.Omega.{arith}
 use Rattle.rules.proofs.Views.{Place, view-at, view-part, view-rest}
 use Rattle.machine.specs.DissemView.{senseOf, parityOf, roundOf}

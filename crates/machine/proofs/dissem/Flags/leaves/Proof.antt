@@ -1,7 +1,6 @@
 -- `machine::dissem::Flags::leaves` meets its contract.
 use borrow.Author.Needs.{needs}
-use mathlib.Core.Path.{_≡_, refl, sym, ap, _∙_}
-use native.Mathlib.Omega.{arith}
+use mathlib.Core.Path.{refl}
 use Rattle.rules.proofs.Views.{Place, view-at, view-part}
 use Rattle.machine.specs.DissemView.{senseOf, parityOf, roundOf}
 use Rattle.machine.proofs.DissemFlags.{same-flags}

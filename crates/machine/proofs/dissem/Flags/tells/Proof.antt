@@ -1,6 +1,6 @@
 -- `machine::dissem::Flags::tells` meets its contract.
 use borrow.Author.Needs.{needs}
-use mathlib.Core.Path.{_≡_, refl, sym, ap, _∙_}
+use mathlib.Core.Path.{refl}
 use native.Mathlib.Omega.{arith}
 use Rattle.rules.proofs.Views.{Place, view-at, view-part}
 use Rattle.machine.specs.DissemView.{bits}
