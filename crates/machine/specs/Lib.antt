@@ -5,3 +5,4 @@ pub mod TicketView
 pub mod McsView
 pub mod CentralView
 pub mod DissemView
+pub mod RunView

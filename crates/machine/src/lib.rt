@@ -1,5 +1,6 @@
 // The machines, one turn at a time, and the run over a schedule.
 mod central;
+mod core;
 mod counts;
 mod course;
 mod dissem;
@@ -8,4 +9,8 @@ mod loops;
 mod made;
 mod mcs;
 mod played;
+mod table;
 mod ticket;
+
+pub use table::Answer;
+pub use table::Record;

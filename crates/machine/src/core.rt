@@ -1,0 +1,87 @@
+// A run over plain numbers: refusals, the machine that the settings name, its numbers. The table is filled afterwards.
+use crate::loops::play_central;
+use crate::loops::play_dissem;
+use crate::loops::play_mcs;
+use crate::loops::play_ticket;
+use crate::played::Played;
+use settings::Settings;
+use settings::refused_by;
+ghost use mathlib.Core.Path.{_≡_};
+ghost use lib.ListN.{replicate};
+ghost use Rattle.settings.specs.View.{settingsOf};
+ghost use Rattle.machine.specs.RunView.{OutcomeIs};
+
+// count: how many records there are to write. sums: six numbers for each processor.
+pub(crate) struct Outcome {
+    pub(crate) number: u8,
+    pub(crate) turns: usize,
+    pub(crate) stop: u8,
+    pub(crate) events: usize,
+    pub(crate) total: u32,
+    pub(crate) count: usize,
+    pub(crate) sums: [u16; 384],
+}
+
+fn refused(number: u8) -> Outcome
+    ensures { λ r. ⌜ r ≡ record { number = number; turns = 0; stop = 0; events = 0; total = 0; count = 0; sums = replicate 384 0 } ⌝ }
+{
+    Outcome {
+        number,
+        turns: 0,
+        stop: 0,
+        events: 0,
+        total: 0,
+        count: 0,
+        sums: [0; 384],
+    }
+}
+
+fn accepted(procs: u16, p: Played) -> Outcome
+    ensures { λ r. ⌜ r ≡ record { number = 0; turns = p .taken; stop = p .stop; events = p .events; total = p .total; count = procs; sums = p .sums } ⌝ }
+{
+    let sums = p.sums;
+    Outcome {
+        number: 0,
+        turns: p.taken,
+        stop: p.stop,
+        events: p.events,
+        total: p.total,
+        count: procs as usize,
+        sums,
+    }
+}
+
+// room: how many records the lent table has.
+pub(crate) fn core(s: Settings, schedule: &[u16], events: &mut [u16], room: usize) -> Outcome
+    ensures { λ r. ⌜ OutcomeIs (settingsOf s) (now (schedule .entry)) (now (events .entry)) (now (events .exit)) room r ⌝ }
+{
+    let number = refused_by(s, schedule);
+    if number != 0 {
+        return refused(number);
+    }
+    if room < s.procs as usize {
+        return refused(6);
+    }
+    if events.len() < 2 * schedule.len() {
+        return refused(6);
+    }
+    let algo = s.algo;
+    match algo {
+        1 => {
+            let p = play_ticket(s, schedule, events);
+            return accepted(s.procs, p);
+        }
+        2 => {
+            let p = play_mcs(s, schedule, events);
+            return accepted(s.procs, p);
+        }
+        3 => {
+            let p = play_central(s, schedule, events);
+            return accepted(s.procs, p);
+        }
+        _ => {
+            let p = play_dissem(s, schedule, events);
+            return accepted(s.procs, p);
+        }
+    }
+}
