@@ -55,11 +55,11 @@ filled-records o (suc n) table h =
     let l : length new ≡ n = length-records sums n 0 in
     let k : length old ≡ length table = length-map table recordOf in
     map-set recordOf (filled o n table) n (recordFrom o n)
-        ∙ ap (λ r. set r n (recordAt sums n)) (filled-records o n table (omega arith))
-        ∙ ap (λ m. set (over new old) m (recordAt sums n)) (sym l)
-        ∙ over-one new old (recordAt sums n) (omega arith)
-        ∙ ap (λ m. over (new ++ recordAt sums m ∷ []) old) (omega arith)
-        ∙ ap (λ r. over r old) (sym (one-record sums n 0))
+    ∙ ap (λ r. set r n (recordAt sums n)) (filled-records o n table (omega arith))
+    ∙ ap (λ m. set (over new old) m (recordAt sums n)) (sym l)
+    ∙ over-one new old (recordAt sums n) (omega arith)
+    ∙ ap (λ m. over (new ++ recordAt sums m ∷ []) old) (omega arith)
+    ∙ ap (λ r. over r old) (sym (one-record sums n 0))
 
 -- ---- the call
 

@@ -126,13 +126,6 @@ module _ {M : Type 1} (𝓤 : URA M) (H : Heap 𝓤) (A : Atoms 𝓤) (W : Given
   abbrev vals : List Val × (List Val × (List Val × Unit {0}))
   vals = (m-set ∷ [], (m-sc ∷ [], (m-ev ∷ [], tt)))
 
-  -- what a run gives where there is room for m records
-  abbrev pl : ℕ → Outcome
-  pl m = playedOf set (sc .now) (length (ev .now)) m
-
-  abbrev es′ : ℕ → List ℕ
-  es′ m = eventsOf set (sc .now) (ev .now) m
-
   abbrev Post : Val → SProp 𝓤
   Post = walkOf 𝓤 H A tallies.ended stayed (tallies.clauses 𝓤 H A mem run) .post (((κ₀, (κ₁, tt)), (q₀, (q₁, tt)), tt, a, vals), tt)
 
@@ -146,21 +139,23 @@ module _ {M : Type 1} (𝓤 : URA M) (H : Heap 𝓤) (A : Atoms 𝓤) (W : Given
   typed-answer : (an : Answer) (v : Val) → Is N.the-row an (v ∷ []) → Holds (hasTy N′.mir v) × WT v
   typed-answer an v is = LL.lawful N.the-type N′.the-laws 𝓤 H A W .typed an _ is .0
 
+  -- the run over zs, which is a table of zeros, is the run that the contract speaks of
+  given-by : (zs ts : List Record) (es′ : List ℕ) (an : Answer) (r : Tallied) → zs ≡ replicate 64 noRecord → r ≡ record { answer = an; table = ts }
+      → Ran (settingsOf set) (sc .now) (ev .now) es′ zs ts an → Ran (settingsOf set) (sc .now) (ev .now) es′ (replicate 64 noRecord) (r .table) (r .answer)
+  given-by zs ts es′ an r z-is e ran = subst (λ (h : Tallied). Ran (settingsOf set) (sc .now) (ev .now) es′ (replicate 64 noRecord) (h .table) (h .answer)) (sym e) (subst (λ (l : List Record). Ran (settingsOf set) (sc .now) (ev .now) es′ l ts an) z-is ran)
+
+  exits : (r : Tallied) (w : Val) (es′ : List ℕ) → Ran (settingsOf set) (sc .now) (ev .now) es′ (replicate 64 noRecord) (r .table) (r .answer) → length es′ ≡ length (ev .now)
+      → ent 𝓤 (⋆ 𝓤 H A (‵ (flft κ₀ q₀) ∷ ‵ (flft κ₁ q₁) ∷ ‵ (finally u16 (ev .name) es′) ∷ ‵ (Y.the-row .own r (w ∷ [])) ∷ [])) (Post w)
+  exits r w es′ e l =
+      qed W (‵ (flft κ₀ q₀) ∷ ‵ (flft κ₁ q₁) ∷ ‵ (finally u16 (ev .name) es′) ∷ ‵ (Y.the-row .own r (w ∷ [])) ∷ []) ∵
+      suffices ! _ (ends-at 𝓤 H A tallies.ended stayed (tallies.clauses 𝓤 H A mem run) W (((κ₀, (κ₁, tt)), (q₀, (q₁, tt)), tt, a, vals), tt) w r (tt, (tt, (es′, tt))) (tt, (tt, (l, tt)))) $ says ! e $
+      nothing ! $ move ! (2 ∷ 0 ∷ []) $ join ! $ move ! (1 ∷ 0 ∷ []) $ join ! $ frame ! $ nothing ! $ move ! (1 ∷ 0 ∷ []) $ fjoin ! $ nothing ! $ fjoin ! $ nothing ! $ fjoin ! $ done !
+
+  abbrev Three : ℕ → Item 𝓤
+  Three ν = ‵ (flft κ₀ q₀) ⊛ ‵ (flft κ₁ q₁) ⊛ ‵ (flft (ν ∷ []) fullShare) ⊛ ‵ ftrue
+
   -- zs is the array as it is lent
-  module _ (zs : List Record) (z-is : zs ≡ replicate 64 noRecord) (len : length zs ≡ 64) where
-    abbrev ts : List Record
-    ts = filled (pl (length zs)) (pl (length zs) .count) zs
-
-    given-by : (r : Tallied) (an : Answer) → an ≡ answerOf (pl (length zs)) → r ≡ record { answer = an; table = ts } → r ≡ talliedOf (pl 64)
-    given-by r an e₁ e₂ = e₂ ∙ (λ i. record { answer = (e₁ ∙ ap (λ (m : ℕ). answerOf (pl m)) len) i; table = filled (pl (len i)) (pl (len i) .count) (z-is i) })
-
-    exits : (r : Tallied) (w : Val) → r ≡ talliedOf (pl 64) → length (es′ (length zs)) ≡ length (ev .now)
-        → ent 𝓤 (⋆ 𝓤 H A (‵ (flft κ₀ q₀) ∷ ‵ (flft κ₁ q₁) ∷ ‵ (finally u16 (ev .name) (es′ (length zs))) ∷ ‵ (Y.the-row .own r (w ∷ [])) ∷ [])) (Post w)
-    exits r w e l =
-        qed W (‵ (flft κ₀ q₀) ∷ ‵ (flft κ₁ q₁) ∷ ‵ (finally u16 (ev .name) (es′ (length zs))) ∷ ‵ (Y.the-row .own r (w ∷ [])) ∷ []) ∵
-        suffices ! _ (ends-at 𝓤 H A tallies.ended stayed (tallies.clauses 𝓤 H A mem run) W (((κ₀, (κ₁, tt)), (q₀, (q₁, tt)), tt, a, vals), tt) w r (tt, (tt, (es′ (length zs), tt))) (tt, (tt, (l, tt)))) $ says ! (e, ap es′ len) $
-        nothing ! $ move ! (2 ∷ 0 ∷ []) $ join ! $ move ! (1 ∷ 0 ∷ []) $ join ! $ frame ! $ nothing ! $ move ! (1 ∷ 0 ∷ []) $ fjoin ! $ nothing ! $ fjoin ! $ nothing ! $ fjoin ! $ done !
-
+  module _ (zs : List Record) where
     -- the array, lent under the name γ from the local at l₄, and what `run`'s triple binds outside
     abbrev tb : ℕ → GName → RefT (List Record)
     tb l₄ γ = record { ptr = (l₄, 0); name = γ; now = zs }
@@ -174,9 +169,6 @@ module _ {M : Type 1} (𝓤 : URA M) (H : Heap 𝓤) (A : Atoms 𝓤) (W : Given
     abbrev to-run : ℕ → ℕ → GName → Run 𝓤 H A mem run .Ghost
     to-run l₄ ν γ = (((κ₀, (κ₁, (ν ∷ [], tt))), (q₀, (q₁, (fullShare, tt))), tt, run-args l₄ γ, run-vals l₄), tt)
 
-    abbrev Three : ℕ → Item 𝓤
-    Three ν = ‵ (flft κ₀ q₀) ⊛ ‵ (flft κ₁ q₁) ⊛ ‵ (flft (ν ∷ []) fullShare) ⊛ ‵ ftrue
-
     goes-run : (l₄ ν : ℕ) (γ : GName) → ent 𝓤 (⋆ 𝓤 H A (raw Entry ∷ ‵ (flft (ν ∷ []) fullShare) ∷ ‵ (MutSlice (named 2) (ν ∷ []) R .own (tb l₄ γ) (sliceVal (l₄, 0) (length zs) ∷ [])) ∷ [])) (Run 𝓤 H A mem run .pre (to-run l₄ ν γ))
     goes-run l₄ ν γ =
         qed W (((‵ (flft κ₀ q₀) ⊛ ‵ (flft κ₁ q₁) ⊛ ‵ ftrue) ⊛ ‵ (owns (S.the-row ∷ ShrSlice (named 0) κ₀ u16 ∷ MutSlice (named 1) κ₁ u16 ∷ []) a vals)) ∷ ‵ (flft (ν ∷ []) fullShare) ∷ ‵ (MutSlice (named 2) (ν ∷ []) R .own (tb l₄ γ) (sliceVal (l₄, 0) (length zs) ∷ [])) ∷ []) ∵
@@ -187,17 +179,14 @@ module _ {M : Type 1} (𝓤 : URA M) (H : Heap 𝓤) (A : Atoms 𝓤) (W : Given
         -- [events; true; schedule; set; the tokens; the slice]
         move ! (5 ∷ 1 ∷ []) $ fjoin ! $ move ! (1 ∷ 0 ∷ []) $ fjoin ! $ move ! (1 ∷ 0 ∷ []) $ fjoin ! $ move ! (1 ∷ 0 ∷ []) $ fjoin ! $ move ! (1 ∷ 0 ∷ []) $ join ! $ frame ! $ done !
 
-    -- what `run` ensures, at its last lists
-    abbrev Ran : Answer → List ℕ → List Record → Type 0
-    Ran an es ys = (an ≡ answerOf (pl (length zs))) × (es ≡ es′ (length zs)) × (ys ≡ ts)
+  -- ts is the array as it comes back
+  abbrev to-join : (ts : List Record) → Answer → Val → Val → JoinUp 𝓤 H A mem run .Ghost
+  to-join ts an w v = ((tt, tt, tt, (an, (ts, tt)), (w ∷ [], (v ∷ [], tt))), tt)
 
-    abbrev to-join : Answer → Val → Val → JoinUp 𝓤 H A mem run .Ghost
-    to-join an w v = ((tt, tt, tt, (an, (ts, tt)), (w ∷ [], (v ∷ [], tt))), tt)
-
-    goes-join : (an : Answer) (w v : Val) → Is N.the-row an (w ∷ []) → Is Rs ts (v ∷ []) → ent 𝓤 (emp 𝓤) (JoinUp 𝓤 H A mem run .pre (to-join an w v))
-    goes-join an w v is is′ =
-        qed W [] ∵ nothing ! $ owned ! Rs (Is Rs) (array-makes 𝓤 H A W R ((LL.makes T.the-type T′.the-plain) 𝓤 H A) 64) ts (v ∷ []) is′ $ fjoin ! $
-        owned ! N.the-row (Is N.the-row) ((LL.makes N.the-type N′.the-plain) 𝓤 H A) an (w ∷ []) is $ fjoin ! $ nothing ! $ join ! $ frame ! $ done !
+  goes-join : (ts : List Record) (an : Answer) (w v : Val) → Is N.the-row an (w ∷ []) → Is Rs ts (v ∷ []) → ent 𝓤 (emp 𝓤) (JoinUp 𝓤 H A mem run .pre (to-join ts an w v))
+  goes-join ts an w v is is′ =
+      qed W [] ∵ nothing ! $ owned ! Rs (Is Rs) (array-makes 𝓤 H A W R ((LL.makes T.the-type T′.the-plain) 𝓤 H A) 64) ts (v ∷ []) is′ $ fjoin ! $
+      owned ! N.the-row (Is N.the-row) ((LL.makes N.the-type N′.the-plain) 𝓤 H A) an (w ∷ []) is $ fjoin ! $ nothing ! $ join ! $ frame ! $ done !
 
   abbrev to-none : NoRecords 𝓤 H A mem run .Ghost
   to-none = ((tt, tt, tt, tt, tt), tt)
@@ -245,26 +234,27 @@ module _ {M : Type 1} (𝓤 : URA M) (H : Heap 𝓤) (A : Atoms 𝓤) (W : Given
       Made zs w = ‵ (Rs .own zs (w ∷ [])) ∷ Unused (‵ (fat fullShare t₄ l₆ 0 w) ∷ ‵ (fdies t₄ l₆) ∷ ‵ (froom N′.mir l₅ 0) ∷ ‵ (fdies N′.mir l₅) ∷ ‵ (fat fullShare t₄ l₄ 0 w) ∷ ‵ (fdies t₄ l₄) ∷ Params (raw Entry ∷ []))
 
       -- once `run` has returned w′ and the array is back, at v
-      abbrev Back : List Record → Val → Val → Val → List (Item 𝓤)
-      Back zs w w′ v = ‵ (flft κ₀ q₀) ∷ ‵ (flft κ₁ q₁) ∷ ‵ (finally u16 (ev .name) (es′ (length zs)))
+      abbrev Back : List Record → List ℕ → Val → Val → Val → List (Item 𝓤)
+      Back zs es′ w w′ v = ‵ (flft κ₀ q₀) ∷ ‵ (flft κ₁ q₁) ∷ ‵ (finally u16 (ev .name) es′)
           ∷ ‵ (fat fullShare t₁₀ l₁₀ 0 (sliceVal (l₄, 0) (length zs))) ∷ ‵ (fdies t₁₀ l₁₀) ∷ ‵ (fat fullShare t₉ l₉ 0 (vptr l₄ 0)) ∷ ‵ (fdies t₉ l₉) ∷ ‵ (fat fullShare (sliceTy t₇) l₈ 0 m-ev) ∷ ‵ (fdies (sliceTy t₇) l₈)
           ∷ ‵ (fat fullShare t₇ l₇ 0 (vptr (ev .ptr .0) (ev .ptr .1))) ∷ ‵ (fdies t₇ l₇) ∷ ‵ (fat fullShare t₄ l₆ 0 w) ∷ ‵ (fdies t₄ l₆) ∷ ‵ (fat fullShare N′.mir l₅ 0 w′) ∷ ‵ (fdies N′.mir l₅) ∷ ‵ (fat fullShare t₄ l₄ 0 v) ∷ ‵ (fdies t₄ l₄) ∷ Params []
 
       module _ (zs : List Record) (z-is : zs ≡ replicate 64 noRecord) (len : length zs ≡ 64) (w : Val) where
-        closes : (an : Answer) (w′ v : Val) → an ≡ answerOf (pl (length zs)) → Is N.the-row an (w′ ∷ []) → Is Rs (ts zs z-is len) (v ∷ []) → length (es′ (length zs)) ≡ length (ev .now) → Sq W (Back zs w w′ v) (runs C Λ En mir.t-8 (atRet En Post))
-        closes an w′ v e is is′ l =
+        closes : (ts : List Record) (es′ : List ℕ) (an : Answer) (w′ v : Val) → Ran (settingsOf set) (sc .now) (ev .now) es′ zs ts an → Is N.the-row an (w′ ∷ []) → Is Rs ts (v ∷ []) → length es′ ≡ length (ev .now)
+            → Sq W (Back zs es′ w w′ v) (runs C Λ En mir.t-8 (atRet En Post))
+        closes ts es′ an w′ v e is is′ l =
             -- [κ₀; κ₁; the events' last list; _10; …; _9; …; _8; …; _7; …; _6; …; _5; …; _4; …; _3; …; _2; …; _1; …; room for _0; …]
-            assigns ! (of-opd ! (load ! (from ! (stop !)) (look ! (3 + loc 4) refl))) (from ! (stop !)) (store ! (3 + loc 6) refl (typed-array (ts zs z-is len) v is′)) $
-            use0 W (raw (JoinUp 𝓤 H A mem run .pre (to-join zs z-is len an w′ v))) (goes-join zs z-is len an w′ v is is′) $
-            calls-at ! fm (JoinUp 𝓤 H A mem run) known-join (to-join zs z-is len an w′ v) (and-then ! (load ! (from ! (stop !)) (look ! (4 + loc 5) refl)) (and-then ! (load ! (from ! (stop !)) (look ! (4 + loc 6) refl)) (no-more !))) (λ u.
-            use1 W (later (some (λ (r : Tallied). (‵ ftrue ⊛ ‵ (Y.the-row .own r (u ∷ []))) ⊛ raw (ensured 𝓤 H A join-up.ended (join-up.clauses 𝓤 H A mem run) tt (an, (ts zs z-is len, tt)) tt r)))) (id⊢ 𝓤 _) $ await ! tt $ pick ! (λ r.
-            split ! $ move ! (1 ∷ []) $ use1 W (raw (fact 𝓤 (r ≡ record { answer = an; table = ts zs z-is len }))) (joined-of 𝓤 H A mem run an (ts zs z-is len) r) $ heard ! (r ≡ record { answer = an; table = ts zs z-is len }) (λ e′. split ! $ drop ! $
+            assigns ! (of-opd ! (load ! (from ! (stop !)) (look ! (3 + loc 4) refl))) (from ! (stop !)) (store ! (3 + loc 6) refl (typed-array ts v is′)) $
+            use0 W (raw (JoinUp 𝓤 H A mem run .pre (to-join ts an w′ v))) (goes-join ts an w′ v is is′) $
+            calls-at ! fm (JoinUp 𝓤 H A mem run) known-join (to-join ts an w′ v) (and-then ! (load ! (from ! (stop !)) (look ! (4 + loc 5) refl)) (and-then ! (load ! (from ! (stop !)) (look ! (4 + loc 6) refl)) (no-more !))) (λ u.
+            use1 W (later (some (λ (r : Tallied). (‵ ftrue ⊛ ‵ (Y.the-row .own r (u ∷ []))) ⊛ raw (ensured 𝓤 H A join-up.ended (join-up.clauses 𝓤 H A mem run) tt (an, (ts, tt)) tt r)))) (id⊢ 𝓤 _) $ await ! tt $ pick ! (λ r.
+            split ! $ move ! (1 ∷ []) $ use1 W (raw (fact 𝓤 (r ≡ record { answer = an; table = ts }))) (joined-of 𝓤 H A mem run an ts r) $ heard ! (r ≡ record { answer = an; table = ts }) (λ e′. split ! $ drop ! $
             peeks ! Y.the-row (Is Y.the-row) (shows 𝓤 H A Y.the-row) r (u ∷ []) (λ is″.
             land ! (from ! (stop !)) (init ! (4 + loc 0) refl (LL.lawful Y.the-type Y′.the-laws 𝓤 H A W .typed r _ is″ .0)) $
             returns ! (look ! (4 + loc 0) refl) $ forget ! (4 + loc 10) refl $ forget ! (4 + loc 9) refl $ forget ! (4 + loc 8) refl $ forget ! (4 + loc 7) refl $ forget ! (4 + loc 6) refl $ forget ! (4 + loc 5) refl $ forget ! (4 + loc 4) refl $ forget ! (4 + loc 3) refl $ forget ! (4 + loc 2) refl $ forget ! (4 + loc 1) refl $ forget ! (4 + loc 0) refl $
             move ! (24 ∷ 25 ∷ []) $ free1 ! $ move ! (22 ∷ 23 ∷ []) $ free1 ! $ move ! (20 ∷ 21 ∷ []) $ free1 ! $ move ! (18 ∷ 19 ∷ []) $ free1 ! $ move ! (16 ∷ 17 ∷ []) $ free1 ! $ move ! (14 ∷ 15 ∷ []) $ free1 ! $
             move ! (12 ∷ 13 ∷ []) $ free1 ! $ move ! (10 ∷ 11 ∷ []) $ free1 ! $ move ! (8 ∷ 9 ∷ []) $ free1 ! $ move ! (6 ∷ 7 ∷ []) $ free1 ! $ move ! (4 ∷ 5 ∷ []) $ free1 ! $ free0 ! $
-            keep ! (1 ∷ 2 ∷ 3 ∷ 0 ∷ []) $ by ! (exits zs z-is len r u (given-by zs z-is len r an e e′) l)))))
+            keep ! (1 ∷ 2 ∷ 3 ∷ 0 ∷ []) $ by ! (exits r u es′ (given-by zs ts es′ an r z-is e′ e) l)))))
 
         plays : Sq W (Made zs w) (runs C Λ En mir.t-3 (atRet En Post))
         plays =
@@ -276,24 +266,24 @@ module _ {M : Type 1} (𝓤 : URA M) (H : Heap 𝓤) (A : Atoms 𝓤) (W : Given
             rewrite ! 1 (λ (m : ℕ). ‵ (fat fullShare t₁₀ l₁₀ 0 (sliceVal (l₄, 0) m))) (sym len) refl $
             -- the array is lent for a lifetime ν of the call
             lft-new ! tt (λ ν. move ! (14 ∷ 1 ∷ []) $
-            use2 W (later (some (λ (γ : GName). ‵ (MutSlice (named 2) (ν ∷ []) R .own (tb zs z-is len l₄ γ) (sliceVal (l₄, 0) (length zs) ∷ [])) ⊛ ‵ (flent (ν ∷ []) (Held R (length zs) l₄ 0 γ))))) (lends 𝓤 H A W R 64 (ν ∷ []) l₄ 0 tt (named 2) zs w room) $ await ! tt $ pick ! (λ γ. split ! $
-            move ! (24 ∷ 2 ∷ 0 ∷ []) $ use3 W (raw (Run 𝓤 H A mem run .pre (to-run zs z-is len l₄ ν γ))) (goes-run zs z-is len l₄ ν γ) $
+            use2 W (later (some (λ (γ : GName). ‵ (MutSlice (named 2) (ν ∷ []) R .own (tb zs l₄ γ) (sliceVal (l₄, 0) (length zs) ∷ [])) ⊛ ‵ (flent (ν ∷ []) (Held R (length zs) l₄ 0 γ))))) (lends 𝓤 H A W R 64 (ν ∷ []) l₄ 0 tt (named 2) zs w room) $ await ! tt $ pick ! (λ γ. split ! $
+            move ! (24 ∷ 2 ∷ 0 ∷ []) $ use3 W (raw (Run 𝓤 H A mem run .pre (to-run zs l₄ ν γ))) (goes-run zs l₄ ν γ) $
             -- [what `run` asks; the lender's part; _10; …; _9; …; _8; …; _7; …; _6; …; _5; …; that _4 dies; _3; …; _2; …; _1; …; room for _0; …]
-            calls-at ! fm (Run 𝓤 H A mem run) known-run (to-run zs z-is len l₄ ν γ) (and-then ! (load ! (from ! (stop !)) (look ! (1 + loc 1) refl)) (and-then ! (load ! (from ! (stop !)) (look ! (1 + loc 2) refl)) (and-then ! (load ! (from ! (stop !)) (look ! (2 + loc 8) refl)) (and-then ! (load ! (from ! (stop !)) (look ! (2 + loc 10) refl)) (no-more !))))) (λ w′.
-            use1 W (later (some (λ (an : Answer). (Three zs z-is len ν ⊛ ‵ (N.the-row .own an (w′ ∷ []))) ⊛ raw (ensured 𝓤 H A run′.ended (run′.clauses 𝓤 H A mem run) (κ₀, (κ₁, (ν ∷ [], tt))) (run-args zs z-is len l₄ γ) tt an)))) (id⊢ 𝓤 _) $ await ! tt $ pick ! (λ an.
-            split ! $ move ! (1 ∷ []) $ use1 W (some (λ (ws : Unit {0} × (Unit {0} × (List ℕ × (List Record × Unit {0})))). ‵ (lasts run′.ended (κ₀, (κ₁, (ν ∷ [], tt))) (run-args zs z-is len l₄ γ) ws) ⊛ raw (fact 𝓤 (Ran zs z-is len an (ws .1 .1 .0) (ws .1 .1 .1 .0))))) (id⊢ 𝓤 _) $ pick ! (λ ws.
-            split ! $ move ! (1 ∷ []) $ heard ! (Ran zs z-is len an (ws .1 .1 .0) (ws .1 .1 .1 .0)) (λ e. fsplit ! $ drop ! $ fsplit ! $ drop ! $ fsplit ! $ fsplit ! $ move ! (1 ∷ []) $ feqL ! (λ l. rewrite ! 0 (λ (z : List ℕ). ‵ (finally u16 (ev .name) z)) (e .1) refl $
-            move ! (1 ∷ []) $ fsplit ! $ fsplit ! $ move ! (1 ∷ []) $ feqL ! (λ l′. rewrite ! 0 (λ (z : List Record). ‵ (finally R γ z)) (e .2) refl $
+            calls-at ! fm (Run 𝓤 H A mem run) known-run (to-run zs l₄ ν γ) (and-then ! (load ! (from ! (stop !)) (look ! (1 + loc 1) refl)) (and-then ! (load ! (from ! (stop !)) (look ! (1 + loc 2) refl)) (and-then ! (load ! (from ! (stop !)) (look ! (2 + loc 8) refl)) (and-then ! (load ! (from ! (stop !)) (look ! (2 + loc 10) refl)) (no-more !))))) (λ w′.
+            use1 W (later (some (λ (an : Answer). (Three ν ⊛ ‵ (N.the-row .own an (w′ ∷ []))) ⊛ raw (ensured 𝓤 H A run′.ended (run′.clauses 𝓤 H A mem run) (κ₀, (κ₁, (ν ∷ [], tt))) (run-args zs l₄ γ) tt an)))) (id⊢ 𝓤 _) $ await ! tt $ pick ! (λ an.
+            split ! $ move ! (1 ∷ []) $ use1 W (some (λ (ws : Unit {0} × (Unit {0} × (List ℕ × (List Record × Unit {0})))). ‵ (lasts run′.ended (κ₀, (κ₁, (ν ∷ [], tt))) (run-args zs l₄ γ) ws) ⊛ raw (fact 𝓤 (Ran (settingsOf set) (sc .now) (ev .now) (ws .1 .1 .0) zs (ws .1 .1 .1 .0) an)))) (id⊢ 𝓤 _) $ pick ! (λ ws.
+            split ! $ move ! (1 ∷ []) $ heard ! (Ran (settingsOf set) (sc .now) (ev .now) (ws .1 .1 .0) zs (ws .1 .1 .1 .0) an) (λ e. fsplit ! $ drop ! $ fsplit ! $ drop ! $ fsplit ! $ fsplit ! $ move ! (1 ∷ []) $ feqL ! (λ l.
+            move ! (1 ∷ []) $ fsplit ! $ fsplit ! $ move ! (1 ∷ []) $ feqL ! (λ l′.
             -- [the table's last list; true; the events' last list; the tokens and the answer; the lender's part; _10; …]
             move ! (3 ∷ []) $ split ! $ move ! (1 ∷ []) $ peeks ! N.the-row (Is N.the-row) (shows 𝓤 H A N.the-row) an (w′ ∷ []) (λ is.
             land ! (from ! (stop !)) (init ! (6 + loc 5) refl (typed-answer an w′ is)) $
             -- the lifetime is ended, and the array comes back at that list
             move ! (1 ∷ []) $ split ! $ move ! (1 ∷ []) $ split ! $ move ! (1 ∷ []) $ split ! $ lft-end ! tt $ move ! (0 ∷ 8 ∷ 5 ∷ []) $
-            use3 W (later (some (λ (v : Val). ‵ (fat fullShare t₄ l₄ 0 v) ⊛ ‵ (Rs .own (ts zs z-is len) (v ∷ []))))) (back 𝓤 H A W R 64 (ν ∷ []) l₄ 0 γ zs (ts zs z-is len) len) $ await ! tt $ pick ! (λ v. split ! $ move ! (1 ∷ []) $
-            peeks ! Rs (Is Rs) (shows 𝓤 H A Rs) (ts zs z-is len) (v ∷ []) (λ is′.
+            use3 W (later (some (λ (v : Val). ‵ (fat fullShare t₄ l₄ 0 v) ⊛ ‵ (Rs .own (ws .1 .1 .1 .0) (v ∷ []))))) (back 𝓤 H A W R 64 (ν ∷ []) l₄ 0 γ zs (ws .1 .1 .1 .0) len) $ await ! tt $ pick ! (λ v. split ! $ move ! (1 ∷ []) $
+            peeks ! Rs (Is Rs) (shows 𝓤 H A Rs) (ws .1 .1 .1 .0) (v ∷ []) (λ is′.
             -- [what the array owns; _4; true; κ₁; κ₀; what the answer owns; true; the events' last list; _10; …; _9; …; _8; …; _7; …; _6; …; _5; …; that _4 dies; _3; …]
             keep ! (4 ∷ 3 ∷ 7 ∷ 8 ∷ 9 ∷ 10 ∷ 11 ∷ 12 ∷ 13 ∷ 14 ∷ 15 ∷ 16 ∷ 17 ∷ 18 ∷ 19 ∷ 1 ∷ 20 ∷ 21 ∷ 22 ∷ 23 ∷ 24 ∷ 25 ∷ 26 ∷ 27 ∷ 28 ∷ []) $
-            closes an w′ v (e .0) is is′ (subst (λ (z : List ℕ). length z ≡ length (ev .now)) (e .1) l))))))))))))
+            closes (ws .1 .1 .1 .0) (ws .1 .1 .0) an w′ v e is is′ l)))))))))))
           where
             room : Room R (length zs)
             room = subst (Room R) (sym len) (lit< tt, lit< tt)
