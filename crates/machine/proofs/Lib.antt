@@ -8,3 +8,7 @@ pub mod McsTurns
 pub mod CentralTurns
 pub mod DissemFlags
 pub mod DissemTurns
+pub mod Walk
+pub mod Lent
+pub mod Tables
+pub mod OneOutcome

@@ -53,6 +53,14 @@ recordFrom o i = record {
   idle = getD (o .sums) (i * numbers + 5) 0;
 }
 
+-- the answer as the code has it
+abbrev pub answerFrom : Outcome → Answer
+answerFrom o = record { number = o .number; turns = o .turns; stop = o .stop; events = o .events; total = o .total }
+
+-- the record of a processor that did nothing
+abbrev pub noRecord : Record
+noRecord = record { done = 0; remote = 0; most = 0; spins = 0; idle = 0 }
+
 -- the first n entries are the records of o, and the rest is as it was
 unfoldable pub filled : Outcome → ℕ → List Record → List Record
 filled o zero table = table

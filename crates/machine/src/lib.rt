@@ -9,8 +9,12 @@ mod loops;
 mod made;
 mod mcs;
 mod played;
+mod running;
 mod table;
 mod ticket;
 
+pub use running::Tallied;
+pub use running::run;
+pub use running::tallies;
 pub use table::Answer;
 pub use table::Record;

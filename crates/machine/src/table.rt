@@ -3,7 +3,7 @@ use crate::core::Outcome;
 ghost use mathlib.Core.Path.{_≡_};
 ghost use Prim.Native.Nat.{_<_, _≤_};
 ghost use lib.ListN.{length};
-ghost use Rattle.machine.specs.RunView.{recordFrom};
+ghost use Rattle.machine.specs.RunView.{recordFrom, answerFrom, filled};
 
 // Passages done, remote references, the most in any one passage begun, spins, idle turns.
 pub struct Record {
@@ -39,8 +39,8 @@ fn record_of(o: Outcome, i: usize) -> Record
     }
 }
 
-fn answer_of(o: Outcome) -> Answer
-    ensures { λ r. ⌜ r ≡ record { number = o .number; turns = o .turns; stop = o .stop; events = o .events; total = o .total } ⌝ }
+pub(crate) fn answer_of(o: Outcome) -> Answer
+    ensures { λ r. ⌜ r ≡ answerFrom o ⌝ }
 {
     Answer {
         number: o.number,
@@ -48,5 +48,18 @@ fn answer_of(o: Outcome) -> Answer
         stop: o.stop,
         events: o.events,
         total: o.total,
+    }
+}
+
+// The records are put into the table's first places.
+pub(crate) fn fill(table: &mut [Record], o: Outcome)
+    requires { ⌜ (o .count ≤ length (now table)) × (o .count ≤ 64) ⌝ }
+    ensures { λ _. ⌜ now (table .exit) ≡ filled o (o .count) (now (table .entry)) ⌝ }
+{
+    let n = o.count;
+    let mut i = 0;
+    while i < n {
+        table[i] = record_of(o, i);
+        i += 1;
     }
 }
