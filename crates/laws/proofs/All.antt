@@ -9,6 +9,7 @@ use Rattle.laws.proofs.Courses.{courses}
 use Rattle.laws.proofs.Lines as lines
 use Rattle.laws.proofs.McsCost.{four, four-reached}
 use Rattle.laws.proofs.Refusals as refusals
+use Rattle.laws.proofs.Runs.{runs}
 use Rattle.laws.proofs.Files as files
 use Rattle.laws.proofs.Doubling.{doublings-hold}
 
@@ -29,6 +30,7 @@ all-laws = record {
   distance = lines.distance;
   agree = lines.agree;
   four = four;
+  runs = runs;
   refusals = record {
     write = refusals.refusals-write;
     run = refusals.refusals-run;

@@ -16,7 +16,7 @@ use Rattle.rules.specs.Calls.{over, Reading, acceptedRead, readingOf, reading, 
 use Rattle.rules.proofs.Store.{by-test}
 use Rattle.rules.proofs.Accepted.{Accepted, accepted, accepts}
 use Rattle.laws.specs.Laws.{InLine, Longest, settingsOf, turnsOf, fileOf, farthest}
-use Rattle.laws.proofs.Lines.{line, lock-run}
+use Rattle.laws.proofs.Lines.{line, begun, lock-run}
 use Rattle.laws.proofs.RoundTrip.{body, written, Full, exact-body, ending, file-was, file-reads, file-refuses}
 use Rattle.laws.proofs.Near.{extend}
 use Rattle.laws.proofs.Longest.{near-body, fullest, lastTurns, fullest-full, fullest-length}
@@ -139,4 +139,4 @@ pub line-file : (bytes schedule : List ℕ)
     → (t u : List ℕ) → t ++ u ≡ turnsOf r → InLine (machine (settingsOf r .algo)) (settingsOf r) t)
 line-file bytes schedule h l t u e =
     let s : Settings = settingsOf (reading bytes schedule) in
-    line (machine (s .algo)) s t (lock-run s t u (rw (← e) at (read-accepts bytes schedule h .0)) l)
+    line (machine (s .algo)) s t (lock-run s t (begun s t u (rw (← e) at (read-accepts bytes schedule h .0))) l)

@@ -11,6 +11,7 @@ pub mod Costs
 pub mod McsCost
 pub mod Doubling
 pub mod Refusals
+pub mod Runs
 pub mod Exact
 pub mod Decimal
 pub mod Numbers

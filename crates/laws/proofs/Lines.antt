@@ -5,7 +5,7 @@ use mathlib.Core.List.{List, [], _∷_, _++_, append-assoc}
 use Prim.Native.Nat.{ℕ, _+_, _≤_}
 use native.Mathlib.Omega.{arith}
 use lib.Dec.{eqb}
-use lib.ListN.{length}
+use lib.ListN.{length, length-append}
 use Rattle.rules.specs.Bounds.{mostTicket}
 use Rattle.rules.specs.Settings.{Settings}
 use Rattle.rules.specs.Step.{join, grant, Event, Machine}
@@ -37,21 +37,36 @@ found : (P : Line → Type 1) (test : Line → Bool) (ls : List Line) → Each P
 found P test [] h = h
 found P test (l ∷ ls) h = either P (test l) l (find test ls) (h .0) (found P test ls (h .1))
 
--- the run over a beginning of an accepted schedule is a lock run where the settings name a lock: by the lines of the table
-pub lock-run : (s : Settings) (t u : List ℕ) → Accepted s (t ++ u) → numbered (s .algo) .sort ≡ lock → LockRun (machine (s .algo)) s t
-lock-run s t u a =
+-- a beginning of an accepted schedule is accepted
+pub begun : (s : Settings) (t u : List ℕ) → Accepted s (t ++ u) → Accepted s t
+begun s t u a = record {
+  algo = a .algo;
+  procs-low = a .procs-low;
+  procs-high = a .procs-high;
+  home = a .home;
+  ticket = a .ticket;
+  budget = a .budget;
+  rounds = a .rounds;
+  hold = a .hold;
+  few = omega (arith, a .few, length-append t u);
+  turns-below = below-first (s .procs) t u (a .turns-below);
+}
+
+-- the run over an accepted schedule is a lock run where the settings name a lock: by the lines of the table
+pub lock-run : (s : Settings) (t : List ℕ) → Accepted s t → numbered (s .algo) .sort ≡ lock → LockRun (machine (s .algo)) s t
+lock-run s t a =
     found (λ l. known l ≡ true → l .sort ≡ lock → LockRun (l .machine) s t) (λ l. eqb (s .algo) (l .number)) table
     (λ k l. ticket-run (omega (arith, a .procs-high)) (a .ticket) b, (λ k l. queue-run b, (λ k. no-lock, (λ k. no-lock, λ k. absurd (false-true k))))) (a .algo)
   where
     b : allBelow (s .procs) t ≡ true
-    b = all-below (s .procs) t (below-first (s .procs) t u (a .turns-below))
+    b = all-below (s .procs) t (a .turns-below)
 
     no-lock : {m : Machine} → barrier ≡ lock → LockRun m s t
     no-lock e = let z : _≡_ {A = ℕ} 0 1 = cc in absurd (omega arith)
 
 pub line-accepted : (s : Settings) (t u : List ℕ) (roomy : Bool) → refusal s (t ++ u) roomy ≡ 0 → numbered (s .algo) .sort ≡ lock
     → InLine (machine (s .algo)) s t
-line-accepted s t u roomy e l = line (machine (s .algo)) s t (lock-run s t u (accepted s (t ++ u) roomy e .0) l)
+line-accepted s t u roomy e l = line (machine (s .algo)) s t (lock-run s t (begun s t u (accepted s (t ++ u) roomy e .0)) l)
 
 -- ---- the counters of the ticket lock
 

@@ -204,11 +204,14 @@ module _ (s : Settings) (t events : List ℕ) (table : List Record) where
   abbrev n₀ : ℕ
   n₀ = runRefusal s t (length events) (length table)
 
+  pub run-number : running s t events table .answer .number ≡ n₀
+  unfolding running acceptedRun
+  run-number = answers (λ w. w .answer .number) accepts (refusedRun n₀ events table) n₀ refl refl
+
   pub refusals-run : First (Unknown s) (Outside s) (TooMany t) (Stray (s .procs) t) ((length table < s .procs) ⊎ (length events < 2 * length t))
       (running s t events table .answer .number)
-  unfolding running acceptedRun
   refusals-run =
-      rw (answers (λ w. w .answer .number) accepts (refusedRun n₀ events table) n₀ refl refl)
+      rw run-number
       (refused-by s t _ _ (settles-and _ _ _ _ (settles-leb (s .procs) (length table)) (settles-leb (2 * length t) (length events))))
 
   pub untouched-run : (n : ℕ) → running s t events table .answer .number ≡ suc n → running s t events table ≡ refusedRun (suc n) events table

@@ -18,7 +18,7 @@ use Rattle.rules.specs.Mcs as mcs
 use Rattle.rules.specs.Dissem.{doublings}
 use Rattle.rules.specs.Machines.{lock, numbered, machine}
 use Rattle.rules.specs.File.{text}
-use Rattle.rules.specs.Calls.{over, allBelow, refusal, Record, Reading, reading, Writing, writing, Running, running}
+use Rattle.rules.specs.Calls.{over, allBelow, refusal, Record, Reading, reading, Writing, writing, acceptedRun, Running, running}
 use Rattle.rules.specs.Cases.{All, cases}
 
 -- ---- words
@@ -108,6 +108,25 @@ pub record Within (far : ℕ) (x : ticket.State) : Type 0 where
 pub data ComesNext (k f : ℕ) (es : List Event) : Type 0 where
   was-granted : (a b : List ℕ) → length a ≡ k → of grant es ≡ a ++ f ∷ b → ComesNext k f es
   is-first : (b : List ℕ) → length (of grant es) ≡ k → of join es ≡ of grant es ++ f ∷ b → ComesNext k f es
+
+-- ---- calls of run
+
+-- run accepts the call
+abbrev pub Accepts : Settings → List ℕ → List ℕ → List Record → Type 0
+Accepts s t events table = running s t events table .answer .number ≡ 0
+
+-- the settings name a lock
+abbrev pub NamesLock : Settings → Type 0
+NamesLock s = numbered (s .algo) .sort ≡ lock
+
+-- the events of the run that the settings ask for
+abbrev pub eventsOf : Settings → List ℕ → List Event
+eventsOf s t = whole (machine (s .algo)) s t .events
+
+-- in each record the most remote references in any one passage are at most n
+abbrev pub AtMost : ℕ → List Record → Type 0
+AtMost n [] = Unit {0}
+AtMost n (r ∷ l) = (r .most ≤ n) × AtMost n l
 
 -- ---- refusals
 
@@ -216,6 +235,24 @@ pub record Line : Type 1 where
       r .answer .number ≡ 0 → numbered (settingsOf r .algo) .sort ≡ lock
       → (t u : List ℕ) → t ++ u ≡ turnsOf r → InLine (machine (settingsOf r .algo)) (settingsOf r) t)
 
+-- demand 3 of calls of run
+pub record Runs : Type 1 where
+  -- an accepted call gives the run over its schedule, and every beginning of the schedule is accepted too
+  pub gives : (s : Settings) (t events : List ℕ) (table : List Record) → Accepts s t events table
+      → running s t events table ≡ acceptedRun s (whole (machine (s .algo)) s t) events table
+  pub beginning : (s : Settings) (t u events : List ℕ) (table : List Record) → Accepts s (t ++ u) events table → Accepts s t events table
+  -- after every turn the run agrees with the waiting line
+  pub run-line : (s : Settings) (t u events : List ℕ) (table : List Record) → Accepts s (t ++ u) events table → NamesLock s
+      → InLine (machine (s .algo)) s t
+  -- no record of the queue lock tells of a passage, finished or not, with more than four remote references
+  pub run-four : (s : Settings) (t events : List ℕ) (table : List Record) → Accepts s t events table → s .algo ≡ 2
+      → AtMost mostReferences (take (s .procs) (running s t events table .table))
+  -- two calls, the joins of the one a beginning of the other's, never disagree on who comes next
+  pub run-agree : (s w : Settings) (t u events events′ : List ℕ) (table table′ : List Record)
+      → Accepts s t events table → NamesLock s → Accepts w u events′ table′ → NamesLock w
+      → Prefix (of join (eventsOf s t)) (of join (eventsOf w u))
+      → (k f g : ℕ) → ComesNext k f (eventsOf s t) → ComesNext k g (eventsOf w u) → f ≡ g
+
 -- for all settings, schedules and lent buffers
 pub record Refusals : Type 0 where
   pub write : (s : Settings) (t out : List ℕ)
@@ -266,6 +303,7 @@ pub record Laws : Type 1 where
       → (k f g : ℕ) → ComesNext k f (whole m s t .events) → ComesNext k g (whole n w u .events) → f ≡ g
   -- in the queue lock no passage, finished or not, makes more than four remote references
   pub four : (s : Settings) (t : List ℕ) (i : ℕ) → whole mcs.machine s t .tally .most i ≤ mostReferences
+  pub runs : Runs
   pub refusals : Refusals
   -- what read accepted, write gives back byte for byte where it has room
   pub read-write : (bytes schedule out : List ℕ)
