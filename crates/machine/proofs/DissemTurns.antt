@@ -17,9 +17,9 @@ use Rattle.rules.proofs.Turned.{Told}
 use Rattle.rules.proofs.Levels.{doublings≤, some-rounds}
 use Rattle.machine.specs.declared.course.Due.{Due}
 use Rattle.machine.specs.declared.course.Due.the-variants as due
-use Rattle.machine.specs.View.{Dues, Turns}
+use Rattle.machine.specs.View.{held, goneTo, ended, Dues, Turns}
 use Rattle.machine.specs.DissemView.{Sound}
-use Rattle.machine.proofs.Turning.{untold, turns-hold, turns-idle, turns-stay, turns-to, turns-leave}
+use Rattle.machine.proofs.Turning.{untold, touching, turns-hold, turns-idle, turns-stay, turns-to, turns-leave}
 
 -- ---- the rounds stay below R
 
@@ -75,7 +75,7 @@ module _ (w procs levels rounds hold : ℕ) (x : State) (c : Course) (lv : level
   Goes x′ c′ d = Turns machine (At procs) w rounds hold x c x′ c′ d × Sound levels x′ c′
 
   module _ (x′ : State) (c′ : Course) (d : Told) where
-    pub dissem-holds : what ≡ due.Hold → x′ ≡ x → c′ ≡ record { at = c .at; left = upd (c .left) w (c .left w - 1); done = c .done } → d ≡ untold false
+    pub dissem-holds : what ≡ due.Hold → x′ ≡ x → c′ ≡ held c w → d ≡ untold false
         → Goes x′ c′ d
     dissem-holds f a b g = (
       turns-hold machine (At procs) w rounds hold x c what e x′ c′ d f a b g,
@@ -89,17 +89,7 @@ module _ (w procs levels rounds hold : ℕ) (x : State) (c : Course) (lv : level
     )
 
   module _ (k : ℕ) (f : what ≡ due.Step k) (x′ : State) (c′ : Course) (d : Told) where
-    -- what is told of an access to a variable of this processor's
-    abbrev touches : ℕ → List ℕ → (began done spin : Bool) → Told
-    touches owner codes began done spin = record { far = pick (eqb owner w) 0 1; codes = codes; began = began; done = done; spin = spin; idle = false }
-
-    abbrev left-course : Course
-    left-course = record { at = upd (c .at) w 1; left = upd (c .left) w hold; done = upd (c .done) w (c .done w + 1) }
-
-    abbrev at-step : ℕ → Course
-    at-step k = record { at = upd (c .at) w k; left = c .left; done = c .done }
-
-    pub dissem-alone : k ≡ 1 → procs ≡ 1 → x′ ≡ x → c′ ≡ left-course → d ≡ touches w ((1024 + w) ∷ (1280 + w) ∷ []) true true false → Goes x′ c′ d
+    pub dissem-alone : k ≡ 1 → procs ≡ 1 → x′ ≡ x → c′ ≡ ended c w hold → d ≡ touching w w ((1024 + w) ∷ (1280 + w) ∷ []) true true false → Goes x′ c′ d
     unfolding step remote
     dissem-alone z n a b g = (
       turns-leave machine (At procs) w rounds hold x c what e x′ c′ d k f (λ s. alone x) (λ s p. rw (z, p, n) refl) (λ s p. a)
@@ -115,7 +105,7 @@ module _ (w procs levels rounds hold : ℕ) (x : State) (c : Course) (lv : level
       parity = x .parity;
       round = x .round;
     })
-        (b : c′ ≡ at-step 2) where
+        (b : c′ ≡ goneTo c w 2 0) where
       memory : (r : ℕ) (says : Says) (s : Settings) → s .procs ≡ procs → x .round w ≡ r → j ≡ (w + 2 ^ r) % procs → x′ ≡ tells r says s x w .memory
       memory r says s p q t = rw (p, ← t, ← kept (x .round) w r q, ← q) a
 
@@ -124,7 +114,7 @@ module _ (w procs levels rounds hold : ℕ) (x : State) (c : Course) (lv : level
           sound-at levels w x x′ c c′ sound 2 (x .round w) (ap (λ (y : Course). y .at) b) (ap (λ (y : State). y .round) a ∙ kept (x .round) w (x .round w) refl)
           (λ q. absurd (omega arith)) (λ q. h)
 
-      pub dissem-first : k ≡ 1 → (procs ≡ 1 → ⊥) → 0 < procs → j ≡ (w + 2 ^ 0) % procs → d ≡ touches j ((1024 + w) ∷ []) true false false → Goes x′ c′ d
+      pub dissem-first : k ≡ 1 → (procs ≡ 1 → ⊥) → 0 < procs → j ≡ (w + 2 ^ 0) % procs → d ≡ touching w j ((1024 + w) ∷ []) true false false → Goes x′ c′ d
       unfolding step remote
       dissem-first z n pos t g =
           let q : x .round w ≡ 0 = round-first levels w rounds x c sound what e k f z in (
@@ -133,7 +123,7 @@ module _ (w procs levels rounds hold : ℕ) (x : State) (c : Course) (lv : level
             told-sound (rw (q, lv) (some-rounds procs (omega arith))),
           )
 
-      pub dissem-tells : (k ≡ 1 → ⊥) → (k ≡ 2 → ⊥) → j ≡ (w + 2 ^ x .round w) % procs → d ≡ touches j [] false false false → Goes x′ c′ d
+      pub dissem-tells : (k ≡ 1 → ⊥) → (k ≡ 2 → ⊥) → j ≡ (w + 2 ^ x .round w) % procs → d ≡ touching w j [] false false false → Goes x′ c′ d
       unfolding step remote
       dissem-tells y z t g = (
         turns-to machine (At procs) w rounds hold x c what e x′ c′ d k f (λ s. tells (x .round w) nothing s x w) (λ s p. rw (ne-eqb _ _ y, ne-eqb _ _ z) refl)
@@ -143,7 +133,7 @@ module _ (w procs levels rounds hold : ℕ) (x : State) (c : Course) (lv : level
 
     -- the own flag is read
     module _ (z : k ≡ 2) where
-      pub dissem-spins : (x .flag w (2 * x .round w + x .parity w) ≡ x .sense w → ⊥) → x′ ≡ x → c′ ≡ c → d ≡ touches w [] false false true → Goes x′ c′ d
+      pub dissem-spins : (x .flag w (2 * x .round w + x .parity w) ≡ x .sense w → ⊥) → x′ ≡ x → c′ ≡ c → d ≡ touching w w [] false false true → Goes x′ c′ d
       unfolding step remote
       dissem-spins n a b g = (
         turns-stay machine (At procs) w rounds hold x c what e x′ c′ d k f (λ s. waits false (eqb (x .round w + 1) (doublings (s .procs))) x w)
@@ -152,8 +142,8 @@ module _ (w procs levels rounds hold : ℕ) (x : State) (c : Course) (lv : level
       )
 
       pub dissem-goes-on : x .flag w (2 * x .round w + x .parity w) ≡ x .sense w → (x .round w + 1 ≡ levels → ⊥)
-          → x′ ≡ record { flag = x .flag; sense = x .sense; parity = x .parity; round = upd (x .round) w (x .round w + 1) } → c′ ≡ at-step 3
-          → d ≡ touches w [] false false false → Goes x′ c′ d
+          → x′ ≡ record { flag = x .flag; sense = x .sense; parity = x .parity; round = upd (x .round) w (x .round w + 1) } → c′ ≡ goneTo c w 3 0
+          → d ≡ touching w w [] false false false → Goes x′ c′ d
       unfolding step remote
       dissem-goes-on t n a b g = (
         turns-to machine (At procs) w rounds hold x c what e x′ c′ d k f (λ s. waits true false x w)
@@ -168,7 +158,7 @@ module _ (w procs levels rounds hold : ℕ) (x : State) (c : Course) (lv : level
             sense = upd (x .sense) w (pick (eqb (x .parity w) 1) (1 - x .sense w) (x .sense w));
             parity = upd (x .parity) w (1 - x .parity w);
             round = upd (x .round) w 0;
-          } → c′ ≡ left-course → d ≡ touches w ((1280 + w) ∷ []) false true false → Goes x′ c′ d
+          } → c′ ≡ ended c w hold → d ≡ touching w w ((1280 + w) ∷ []) false true false → Goes x′ c′ d
       unfolding step remote
       dissem-leaves t n a b g = (
         turns-leave machine (At procs) w rounds hold x c what e x′ c′ d k f (λ s. waits true true x w)

@@ -16,9 +16,9 @@ use Rattle.rules.proofs.Store.{either}
 use Rattle.rules.proofs.Turned.{Told}
 use Rattle.machine.specs.declared.course.Due.{Due}
 use Rattle.machine.specs.declared.course.Due.the-variants as due
-use Rattle.machine.specs.View.{Dues, Turns}
+use Rattle.machine.specs.View.{goneTo, ended, Dues, Turns}
 use Rattle.machine.specs.McsView.{Sound}
-use Rattle.machine.proofs.Turning.{turns-stay, turns-to, turns-grant, turns-over}
+use Rattle.machine.proofs.Turning.{touching, turns-stay, turns-to, turns-grant, turns-over}
 
 pub same-state : (a b : State) → a .tail ≡ b .tail → a .next ≡ b .next → a .locked ≡ b .locked → a .pred ≡ b .pred → a .succ ≡ b .succ → a ≡ b
 same-state a b p q r s t = λ j. record { tail = p j; next = q j; locked = r j; pred = s j; succ = t j }
@@ -77,20 +77,7 @@ module _ {w rounds : ℕ} {x : State} {c : Course} {k : ℕ} (o : Here w rounds 
   abbrev Out : Type 0
   Out = Turns machine (At home) w rounds hold x c x′ c′ d × Sound x′
 
-  -- what is told of an access to a variable of this owner
-  abbrev told : ℕ → List ℕ → (began done spin : Bool) → Told
-  told owner codes began done spin = record { far = pick (eqb owner w) 0 1; codes = codes; began = began; done = done; spin = spin; idle = false }
-
-  abbrev Goes : ℕ → Type 0
-  Goes j = c′ ≡ record { at = upd (c .at) w j; left = c .left; done = c .done }
-
-  abbrev Granted : Type 0
-  Granted = c′ ≡ record { at = upd (c .at) w 7; left = upd (c .left) w hold; done = c .done }
-
-  abbrev Over : Type 0
-  Over = c′ ≡ record { at = upd (c .at) w 1; left = c .left; done = upd (c .done) w (c .done w + 1) }
-
-  pub mcs-clears : k ≡ 1 → x′ ≡ setNext w 0 x → Goes 2 → d ≡ told w [] true false false → Out
+  pub mcs-clears : k ≡ 1 → x′ ≡ setNext w 0 x → c′ ≡ goneTo c w 2 0 → d ≡ touching w w [] true false false → Out
   unfolding step remote
   mcs-clears z a b g = (
     turns-to machine (At home) w rounds hold x c (o .what) (o .dues) x′ c′ d k (o .is) (λ s. clears x w) (λ s p. rw z refl) (λ s p. a) (λ s p. rw z g) 2
@@ -98,7 +85,7 @@ module _ {w rounds : ℕ} {x : State} {c : Course} {k : ℕ} (o : Here w rounds 
     rw a (sound-next x (o .sound) w 0 (omega arith)),
   )
 
-  pub mcs-takes : k ≡ 2 → x .tail ≡ 0 → x′ ≡ setTail (w + 1) x → Granted → d ≡ told home ((256 + w) ∷ (512 + w) ∷ []) false false false → Out
+  pub mcs-takes : k ≡ 2 → x .tail ≡ 0 → x′ ≡ setTail (w + 1) x → c′ ≡ goneTo c w 7 hold → d ≡ touching w home ((256 + w) ∷ (512 + w) ∷ []) false false false → Out
   unfolding step remote
   mcs-takes z t a b g = (
     turns-grant machine (At home) w rounds hold x c (o .what) (o .dues) x′ c′ d k (o .is) (λ s. swaps 0 s x w) (λ s p. rw z (ap (λ n. swaps n s x w) t)) (λ s p. rw (add-one w) at a)
@@ -106,7 +93,7 @@ module _ {w rounds : ℕ} {x : State} {c : Course} {k : ℕ} (o : Here w rounds 
     rw a (sound-tail x (o .sound) 0 (w + 1) (omega arith)),
   )
 
-  pub mcs-joins : k ≡ 2 → (x .tail ≡ 0 → ⊥) → x′ ≡ setPred w (x .tail - 1) (setTail (w + 1) x) → Goes 3 → d ≡ told home ((256 + w) ∷ []) false false false → Out
+  pub mcs-joins : k ≡ 2 → (x .tail ≡ 0 → ⊥) → x′ ≡ setPred w (x .tail - 1) (setTail (w + 1) x) → c′ ≡ goneTo c w 3 0 → d ≡ touching w home ((256 + w) ∷ []) false false false → Out
   unfolding step remote
   mcs-joins z t a b g =
       let q : x .tail ≡ suc (x .tail - 1) = omega arith in (
@@ -115,7 +102,7 @@ module _ {w rounds : ℕ} {x : State} {c : Course} {k : ℕ} (o : Here w rounds 
         rw a (sound-pred (setTail (w + 1) x) (sound-tail x (o .sound) 0 (w + 1) (omega arith)) w (x .tail - 1) (omega arith)),
       )
 
-  pub mcs-locks : k ≡ 3 → x′ ≡ setLocked w 1 x → Goes 4 → d ≡ told w [] false false false → Out
+  pub mcs-locks : k ≡ 3 → x′ ≡ setLocked w 1 x → c′ ≡ goneTo c w 4 0 → d ≡ touching w w [] false false false → Out
   unfolding step remote
   mcs-locks z a b g = (
     turns-to machine (At home) w rounds hold x c (o .what) (o .dues) x′ c′ d k (o .is) (λ s. locks x w) (λ s p. rw z refl) (λ s p. a) (λ s p. rw z g) 4
@@ -123,7 +110,7 @@ module _ {w rounds : ℕ} {x : State} {c : Course} {k : ℕ} (o : Here w rounds 
     rw a (sound-locked x (o .sound) w 1),
   )
 
-  pub mcs-links : k ≡ 4 → x′ ≡ setNext (x .pred w) (w + 1) x → Goes 5 → d ≡ told (x .pred w) [] false false false → Out
+  pub mcs-links : k ≡ 4 → x′ ≡ setNext (x .pred w) (w + 1) x → c′ ≡ goneTo c w 5 0 → d ≡ touching w (x .pred w) [] false false false → Out
   unfolding step remote
   mcs-links z a b g = (
     turns-to machine (At home) w rounds hold x c (o .what) (o .dues) x′ c′ d k (o .is) (λ s. links x w) (λ s p. rw z refl) (λ s p. rw (add-one w) at a) (λ s p. rw z g) 5
@@ -131,7 +118,7 @@ module _ {w rounds : ℕ} {x : State} {c : Course} {k : ℕ} (o : Here w rounds 
     rw a (sound-next x (o .sound) (x .pred w) (w + 1) (omega arith)),
   )
 
-  pub mcs-granted : k ≡ 5 → x .locked w ≡ 0 → x′ ≡ x → Granted → d ≡ told w ((512 + w) ∷ []) false false false → Out
+  pub mcs-granted : k ≡ 5 → x .locked w ≡ 0 → x′ ≡ x → c′ ≡ goneTo c w 7 hold → d ≡ touching w w ((512 + w) ∷ []) false false false → Out
   unfolding step remote
   mcs-granted z t a b g = (
     turns-grant machine (At home) w rounds hold x c (o .what) (o .dues) x′ c′ d k (o .is) (λ s. waits 0 x w) (λ s p. rw z (ap (λ n. waits n x w) t)) (λ s p. a)
@@ -139,7 +126,7 @@ module _ {w rounds : ℕ} {x : State} {c : Course} {k : ℕ} (o : Here w rounds 
     rw a (o .sound),
   )
 
-  pub mcs-spins : k ≡ 5 → (x .locked w ≡ 0 → ⊥) → x′ ≡ x → c′ ≡ c → d ≡ told w [] false false true → Out
+  pub mcs-spins : k ≡ 5 → (x .locked w ≡ 0 → ⊥) → x′ ≡ x → c′ ≡ c → d ≡ touching w w [] false false true → Out
   unfolding step remote
   mcs-spins z t a b g =
       let q : x .locked w ≡ suc (x .locked w - 1) = omega arith in (
@@ -148,7 +135,7 @@ module _ {w rounds : ℕ} {x : State} {c : Course} {k : ℕ} (o : Here w rounds 
         rw a (o .sound),
       )
 
-  pub mcs-alone : k ≡ 7 → x .next w ≡ 0 → x′ ≡ x → Goes 8 → d ≡ told w [] false false false → Out
+  pub mcs-alone : k ≡ 7 → x .next w ≡ 0 → x′ ≡ x → c′ ≡ goneTo c w 8 0 → d ≡ touching w w [] false false false → Out
   unfolding step remote
   mcs-alone z t a b g = (
     turns-to machine (At home) w rounds hold x c (o .what) (o .dues) x′ c′ d k (o .is) (λ s. looks 0 x w) (λ s p. rw z (ap (λ n. looks n x w) t)) (λ s p. a)
@@ -156,7 +143,7 @@ module _ {w rounds : ℕ} {x : State} {c : Course} {k : ℕ} (o : Here w rounds 
     rw a (o .sound),
   )
 
-  pub mcs-finds : k ≡ 7 → (x .next w ≡ 0 → ⊥) → x′ ≡ setSucc w (x .next w - 1) x → Goes 10 → d ≡ told w [] false false false → Out
+  pub mcs-finds : k ≡ 7 → (x .next w ≡ 0 → ⊥) → x′ ≡ setSucc w (x .next w - 1) x → c′ ≡ goneTo c w 10 0 → d ≡ touching w w [] false false false → Out
   unfolding step remote
   mcs-finds z t a b g =
       let q : x .next w ≡ suc (x .next w - 1) = omega arith in (
@@ -165,7 +152,7 @@ module _ {w rounds : ℕ} {x : State} {c : Course} {k : ℕ} (o : Here w rounds 
         rw a (sound-succ x (o .sound) w (x .next w - 1) (omega (arith, o .sound .next w))),
       )
 
-  pub mcs-drains : k ≡ 8 → x .tail ≡ w + 1 → x′ ≡ setTail 0 x → Over → d ≡ told home ((768 + w) ∷ []) false true false → Out
+  pub mcs-drains : k ≡ 8 → x .tail ≡ w + 1 → x′ ≡ setTail 0 x → c′ ≡ ended c w 0 → d ≡ touching w home ((768 + w) ∷ []) false true false → Out
   unfolding step remote
   mcs-drains z t a b g = (
     turns-over machine (At home) w rounds hold x c (o .what) (o .dues) x′ c′ d k (o .is) (λ s. drains true s x) (λ s p. rw (z, eq-eqb _ _ (t ∙ add-one w)) refl) (λ s p. a)
@@ -173,7 +160,7 @@ module _ {w rounds : ℕ} {x : State} {c : Course} {k : ℕ} (o : Here w rounds 
     rw a (sound-tail x (o .sound) 0 0 (omega arith)),
   )
 
-  pub mcs-fails : k ≡ 8 → (x .tail ≡ w + 1 → ⊥) → x′ ≡ x → Goes 9 → d ≡ told home [] false false false → Out
+  pub mcs-fails : k ≡ 8 → (x .tail ≡ w + 1 → ⊥) → x′ ≡ x → c′ ≡ goneTo c w 9 0 → d ≡ touching w home [] false false false → Out
   unfolding step remote
   mcs-fails z t a b g = (
     turns-to machine (At home) w rounds hold x c (o .what) (o .dues) x′ c′ d k (o .is) (λ s. drains false s x) (λ s p. rw (z, ne-eqb _ _ (λ u. t (u ∙ sym (add-one w)))) refl) (λ s p. a)
@@ -181,7 +168,7 @@ module _ {w rounds : ℕ} {x : State} {c : Course} {k : ℕ} (o : Here w rounds 
     rw a (o .sound),
   )
 
-  pub mcs-rereads : k ≡ 9 → x .next w ≡ 0 → x′ ≡ x → c′ ≡ c → d ≡ told w [] false false true → Out
+  pub mcs-rereads : k ≡ 9 → x .next w ≡ 0 → x′ ≡ x → c′ ≡ c → d ≡ touching w w [] false false true → Out
   unfolding step remote
   mcs-rereads z t a b g = (
     turns-stay machine (At home) w rounds hold x c (o .what) (o .dues) x′ c′ d k (o .is) (λ s. rereads 0 x w) (λ s p. rw z (ap (λ n. rereads n x w) t)) (λ s p. a)
@@ -189,7 +176,7 @@ module _ {w rounds : ℕ} {x : State} {c : Course} {k : ℕ} (o : Here w rounds 
     rw a (o .sound),
   )
 
-  pub mcs-meets : k ≡ 9 → (x .next w ≡ 0 → ⊥) → x′ ≡ setSucc w (x .next w - 1) x → Goes 10 → d ≡ told w [] false false false → Out
+  pub mcs-meets : k ≡ 9 → (x .next w ≡ 0 → ⊥) → x′ ≡ setSucc w (x .next w - 1) x → c′ ≡ goneTo c w 10 0 → d ≡ touching w w [] false false false → Out
   unfolding step remote
   mcs-meets z t a b g =
       let q : x .next w ≡ suc (x .next w - 1) = omega arith in (
@@ -198,7 +185,7 @@ module _ {w rounds : ℕ} {x : State} {c : Course} {k : ℕ} (o : Here w rounds 
         rw a (sound-succ x (o .sound) w (x .next w - 1) (omega (arith, o .sound .next w))),
       )
 
-  pub mcs-wakes : Last k → x′ ≡ setLocked (x .succ w) 0 x → Over → d ≡ told (x .succ w) ((768 + w) ∷ []) false true false → Out
+  pub mcs-wakes : Last k → x′ ≡ setLocked (x .succ w) 0 x → c′ ≡ ended c w 0 → d ≡ touching w (x .succ w) ((768 + w) ∷ []) false true false → Out
   unfolding step remote
   mcs-wakes y a b g = (
     turns-over machine (At home) w rounds hold x c (o .what) (o .dues) x′ c′ d k (o .is) (λ s. wakes x w)

@@ -13,8 +13,8 @@ use Rattle.rules.specs.Ticket.{State, up, asks, waits, frees, step, machine}
 use Rattle.rules.proofs.Turned.{Told}
 use Rattle.machine.specs.declared.course.Due.{Due}
 use Rattle.machine.specs.declared.course.Due.the-variants as due
-use Rattle.machine.specs.View.{Dues, Turns}
-use Rattle.machine.proofs.Turning.{turns-stay, turns-to, turns-grant, turns-over}
+use Rattle.machine.specs.View.{goneTo, ended, Dues, Turns}
+use Rattle.machine.proofs.Turning.{touching, turns-stay, turns-to, turns-grant, turns-over}
 
 pub same-state : (a b : State) → a .request ≡ b .request → a .release ≡ b .release → a .mine ≡ b .mine → a ≡ b
 same-state a b p q r = λ j. record { request = p j; release = q j; mine = r j }
@@ -24,12 +24,8 @@ At home s = s .home ≡ home
 
 module _ (w home rounds hold : ℕ) (x : State) (c : Course) (what : Due) (e : Dues c w rounds what) (k : ℕ) (f : what ≡ due.Step k)
     (x′ : State) (c′ : Course) (d : Told) where
-  -- what is told of an access to a variable at home
-  abbrev at-home : List ℕ → (began done spin : Bool) → Told
-  at-home codes began done spin = record { far = pick (eqb home w) 0 1; codes = codes; began = began; done = done; spin = spin; idle = false }
-
   pub ticket-asks : k ≡ 1 → x′ ≡ record { request = up (x .request); release = x .release; mine = upd (x .mine) w (x .request) }
-      → c′ ≡ record { at = upd (c .at) w 2; left = c .left; done = c .done } → d ≡ at-home ((256 + w) ∷ []) true false false
+      → c′ ≡ goneTo c w 2 0 → d ≡ touching w home ((256 + w) ∷ []) true false false
       → Turns machine (At home) w rounds hold x c x′ c′ d
   unfolding step remote
   ticket-asks z a b g =
@@ -37,14 +33,14 @@ module _ (w home rounds hold : ℕ) (x : State) (c : Course) (what : Due) (e : D
       (λ s. refl) (λ s. refl) b
 
   pub ticket-granted : k ≡ 2 → x .release ≡ x .mine w → x′ ≡ x
-      → c′ ≡ record { at = upd (c .at) w 3; left = upd (c .left) w hold; done = c .done } → d ≡ at-home ((512 + w) ∷ []) false false false
+      → c′ ≡ goneTo c w 3 hold → d ≡ touching w home ((512 + w) ∷ []) false false false
       → Turns machine (At home) w rounds hold x c x′ c′ d
   unfolding step remote
   ticket-granted z t a b g =
       turns-grant machine (At home) w rounds hold x c what e x′ c′ d k f (λ s. waits true s x) (λ s p. rw (z, eq-eqb _ _ t) refl) (λ s p. a)
       (λ s p. rw (z, p) g) 3 (λ s. refl) (λ s. refl) b
 
-  pub ticket-spins : k ≡ 2 → (x .release ≡ x .mine w → ⊥) → x′ ≡ x → c′ ≡ c → d ≡ at-home [] false false true
+  pub ticket-spins : k ≡ 2 → (x .release ≡ x .mine w → ⊥) → x′ ≡ x → c′ ≡ c → d ≡ touching w home [] false false true
       → Turns machine (At home) w rounds hold x c x′ c′ d
   unfolding step remote
   ticket-spins z t a b g =
@@ -52,7 +48,7 @@ module _ (w home rounds hold : ℕ) (x : State) (c : Course) (what : Due) (e : D
       (λ s p. rw (z, p) g) (λ s. refl) (λ s. refl) b
 
   pub ticket-frees : (k ≡ 1 → ⊥) → (k ≡ 2 → ⊥) → x′ ≡ record { request = x .request; release = up (x .release); mine = x .mine }
-      → c′ ≡ record { at = upd (c .at) w 1; left = c .left; done = upd (c .done) w (c .done w + 1) } → d ≡ at-home ((768 + w) ∷ []) false true false
+      → c′ ≡ ended c w 0 → d ≡ touching w home ((768 + w) ∷ []) false true false
       → Turns machine (At home) w rounds hold x c x′ c′ d
   unfolding step remote
   ticket-frees y z a b g =

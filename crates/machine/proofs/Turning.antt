@@ -6,7 +6,7 @@ use Prim.Native.Nat.{ℕ, _+_, _-_, _<_}
 use native.Mathlib.Omega.{arith}
 use borrow.Author.Tests.{eq-eqb}
 use lib.Dec.{eqb}
-use Rattle.rules.specs.Memory.{upd}
+use Rattle.rules.specs.Memory.{pick}
 use Rattle.rules.specs.Settings.{Settings, entry}
 use Rattle.rules.specs.Step.{Next, stay, to, over, Step, Machine}
 use Rattle.rules.specs.Course as course
@@ -15,15 +15,19 @@ use Rattle.rules.proofs.Turned.{Told, toldStep, by-hold, by-idle, by-step, afte
 use Rattle.machine.specs.declared.course.Due.{Due}
 use Rattle.machine.specs.declared.course.Due.the-variants as due
 use Rattle.machine.specs.declared.made.Made.{Made}
-use Rattle.machine.specs.View.{Dues, Turns, toldOf}
+use Rattle.machine.specs.View.{held, goneTo, ended, Dues, Turns, toldOf}
 
 -- nothing is told of a turn without access, but whether it is idle
 abbrev pub untold : Bool → Told
 untold idle = record { far = 0; codes = []; began = false; done = false; spin = false; idle = idle }
 
+-- what is told of processor w's access to a variable of this owner
+abbrev pub touching : ℕ → ℕ → List ℕ → (began done spin : Bool) → Told
+touching w owner codes began done spin = record { far = pick (eqb owner w) 0 1; codes = codes; began = began; done = done; spin = spin; idle = false }
+
 module _ (m : Machine) (P : Settings → Type 0) (w rounds hold : ℕ) (x : m .State) (c : Course) (what : Due) (e : Dues c w rounds what)
     (x′ : m .State) (c′ : Course) (d : Told) where
-  pub turns-hold : what ≡ due.Hold → x′ ≡ x → c′ ≡ record { at = c .at; left = upd (c .left) w (c .left w - 1); done = c .done } → d ≡ untold false
+  pub turns-hold : what ≡ due.Hold → x′ ≡ x → c′ ≡ held c w → d ≡ untold false
       → Turns m P w rounds hold x c x′ c′ d
   turns-hold f a b g = record { turned = λ s p r h. by-hold m s x c w x′ c′ d (rw f at e) a b g }
 
@@ -46,19 +50,19 @@ module _ (m : Machine) (P : Settings → Type 0) (w rounds hold : ℕ) (x : m .S
     turns-stay n q g = by (λ s h. g ∙ after-stay s w c (st s) (at-step .0) (n s) (q s))
 
     pub turns-to : (j : ℕ) → ((s : Settings) → st s .then ≡ to j) → ((s : Settings) → holding (st s .says) ≡ false)
-        → c′ ≡ record { at = upd (c .at) w j; left = c .left; done = c .done } → Turns m P w rounds hold x c x′ c′ d
+        → c′ ≡ goneTo c w j 0 → Turns m P w rounds hold x c x′ c′ d
     turns-to j n q g = by (λ s h. g ∙ after-to s w c (st s) (at-step .0) j (n s) (q s))
 
     pub turns-grant : (j : ℕ) → ((s : Settings) → st s .then ≡ to j) → ((s : Settings) → holding (st s .says) ≡ true)
-        → c′ ≡ record { at = upd (c .at) w j; left = upd (c .left) w hold; done = c .done } → Turns m P w rounds hold x c x′ c′ d
+        → c′ ≡ goneTo c w j hold → Turns m P w rounds hold x c x′ c′ d
     turns-grant j n q g = by (λ s h. rw (← h) at g ∙ after-grant s w c (st s) (at-step .0) j (n s) (q s))
 
     pub turns-over : ((s : Settings) → st s .then ≡ over) → ((s : Settings) → holding (st s .says) ≡ false)
-        → c′ ≡ record { at = upd (c .at) w 1; left = c .left; done = upd (c .done) w (c .done w + 1) } → Turns m P w rounds hold x c x′ c′ d
+        → c′ ≡ ended c w 0 → Turns m P w rounds hold x c x′ c′ d
     turns-over n q g = by (λ s h. g ∙ after-over s w c (st s) (at-step .0) (n s) (q s))
 
     pub turns-leave : ((s : Settings) → st s .then ≡ over) → ((s : Settings) → holding (st s .says) ≡ true)
-        → c′ ≡ record { at = upd (c .at) w 1; left = upd (c .left) w hold; done = upd (c .done) w (c .done w + 1) } → Turns m P w rounds hold x c x′ c′ d
+        → c′ ≡ ended c w hold → Turns m P w rounds hold x c x′ c′ d
     turns-leave n q g = by (λ s h. rw (← h) at g ∙ after-leave s w c (st s) (at-step .0) (n s) (q s))
 
 -- ---- what is told

@@ -1,10 +1,10 @@
 -- What the code's structs stand for in the rules.
-use Prim.Native.Nat.{ℕ, _+_, _*_, _<_}
+use Prim.Native.Nat.{ℕ, _+_, _-_, _*_, _%_, _<_}
 use mathlib.Core.Path.{_≡_}
 use mathlib.Core.Bool.{Bool, false, _&&_}
 use mathlib.Core.List.{List, [], _∷_}
-use lib.Dec.{eqb}
-use Rattle.rules.specs.Memory.{pick}
+use lib.Dec.{eqb, ltb}
+use Rattle.rules.specs.Memory.{pick, upd}
 use Rattle.rules.specs.Settings.{Settings, entry}
 use Rattle.rules.specs.Step.{Machine}
 use Rattle.rules.specs.Course as course
@@ -15,9 +15,31 @@ use Rattle.machine.specs.declared.course.Due.{Due}
 use Rattle.machine.specs.declared.course.Due.the-variants.{Hold, Idle, Step}
 use Rattle.machine.specs.declared.made.Made.{Made}
 
+-- what is added to a step in the code's row where hold turns come first; the row beside it has how many follow the next one
+abbrev pub holds : ℕ
+holds = 128
+
+unfoldable pub steps : List ℕ → ℕ → ℕ
+steps at i = view 1 at i % holds
+
+unfoldable pub lefts : List ℕ → List ℕ → ℕ → ℕ
+lefts at left i = pick (ltb (view 1 at i) holds) 0 (view 0 left i + 1)
+
 -- every processor starts at step 1
 abbrev pub courseOf : Course → course.Course
-courseOf c = record { at = view 1 (c .at); left = view 0 (c .left); done = view 0 (c .done) }
+courseOf c = record { at = steps (c .at); left = lefts (c .at) (c .left); done = view 0 (c .done) }
+
+-- after a hold turn of processor i
+abbrev pub held : course.Course → ℕ → course.Course
+held c i = record { at = c .at; left = upd (c .left) i (c .left i - 1); done = c .done }
+
+-- processor i goes to step k, after this many hold turns
+abbrev pub goneTo : course.Course → ℕ → ℕ → ℕ → course.Course
+goneTo c i k hold = record { at = upd (c .at) i k; left = upd (c .left) i hold; done = c .done }
+
+-- its passage is done, and this many hold turns follow
+abbrev pub ended : course.Course → ℕ → ℕ → course.Course
+ended c i hold = record { at = upd (c .at) i 1; left = upd (c .left) i hold; done = upd (c .done) i (c .done i + 1) }
 
 -- what processor i's next turn is, of this many rounds
 abbrev pub Dues : course.Course → ℕ → ℕ → Due → Type 0

@@ -1,11 +1,13 @@
 // The course of each processor through its passages, hold turns and idle turns, once for all machines.
 ghost use mathlib.Core.Path.{_≡_};
-ghost use Prim.Native.Nat.{_<_, _+_, _-_};
+ghost use Prim.Native.Nat.{_<_, _≤_, _+_, _-_};
+ghost use lib.Dec.{eqb};
 ghost use lib.ListN.{getD};
-ghost use Rattle.rules.specs.Memory.{upd};
+ghost use Rattle.rules.specs.Memory.{pick};
 ghost use Rattle.rules.specs.Course.{outset};
-ghost use Rattle.machine.specs.View.{courseOf, Dues};
+ghost use Rattle.machine.specs.View.{courseOf, holds, held, goneTo, ended, Dues};
 
+// at: the step, and HOLDS more where hold turns come first. left: how many of these follow the next one.
 // gap is 0. It parts the rows: the compiler then copies only those that a turn changes.
 pub(crate) struct Course {
     done: [u16; 64],
@@ -19,6 +21,22 @@ pub(crate) enum Due {
     Hold,
     Idle,
     Step(u8),
+}
+
+const HOLDS: u8 = 128;
+
+fn one_less(n: u8) -> u8
+    ensures { λ r. ⌜ r ≡ n - 1 ⌝ }
+{
+    if n == 0 { 0 } else { n - 1 }
+}
+
+// The step as it stands in the row, with this many hold turns before it.
+fn after_hold(step: u8, hold: u8) -> u8
+    requires { ⌜ step < holds ⌝ }
+    ensures { λ r. ⌜ r ≡ pick (eqb hold 0) step (step + holds) ⌝ }
+{
+    if hold == 0 { step } else { step + HOLDS }
 }
 
 impl Course {
@@ -38,12 +56,11 @@ impl Course {
         requires { ⌜ i < 64 ⌝ }
         ensures { λ r. ⌜ Dues (courseOf self) i rounds r ⌝ }
     {
-        let left = self.left;
-        if left[i] != 0 {
-            return Due::Hold;
-        }
         let at = self.at;
         let step = at[i];
+        if step >= HOLDS {
+            return Due::Hold;
+        }
         if step == 1 {
             let done = self.done;
             if done[i] == rounds {
@@ -55,13 +72,15 @@ impl Course {
 
     // After a hold turn of processor i.
     pub(crate) fn held(self, i: usize) -> Course
-        requires { ⌜ (i < 64) × (0 < getD (self .left) i 0) ⌝ }
-        ensures { λ r. ⌜ courseOf r ≡ record { at = courseOf self .at; left = upd (courseOf self .left) i (courseOf self .left i - 1); done = courseOf self .done } ⌝ }
+        requires { ⌜ (i < 64) × (holds ≤ getD (self .at) i 0) ⌝ }
+        ensures { λ r. ⌜ courseOf r ≡ held (courseOf self) i ⌝ }
     {
         let done = self.done;
-        let at = self.at;
         let mut left = self.left;
-        left[i] = left[i] - 1;
+        let more = left[i];
+        left[i] = one_less(more);
+        let mut at = self.at;
+        at[i] = after_hold(at[i] % HOLDS, more);
         Course {
             done,
             gap: 0,
@@ -72,8 +91,8 @@ impl Course {
 
     // Processor i goes to this step.
     pub(crate) fn goes(self, i: usize, step: u8) -> Course
-        requires { ⌜ i < 64 ⌝ }
-        ensures { λ r. ⌜ courseOf r ≡ record { at = upd (courseOf self .at) i step; left = courseOf self .left; done = courseOf self .done } ⌝ }
+        requires { ⌜ (i < 64) × (step < holds) ⌝ }
+        ensures { λ r. ⌜ courseOf r ≡ goneTo (courseOf self) i step 0 ⌝ }
     {
         let done = self.done;
         let mut at = self.at;
@@ -89,14 +108,14 @@ impl Course {
 
     // Processor i is granted the lock: it goes to this step, after its hold turns.
     pub(crate) fn granted(self, i: usize, step: u8, hold: u8) -> Course
-        requires { ⌜ i < 64 ⌝ }
-        ensures { λ r. ⌜ courseOf r ≡ record { at = upd (courseOf self .at) i step; left = upd (courseOf self .left) i hold; done = courseOf self .done } ⌝ }
+        requires { ⌜ (i < 64) × (step < holds) ⌝ }
+        ensures { λ r. ⌜ courseOf r ≡ goneTo (courseOf self) i step hold ⌝ }
     {
         let done = self.done;
         let mut at = self.at;
-        at[i] = step;
+        at[i] = after_hold(step, hold);
         let mut left = self.left;
-        left[i] = hold;
+        left[i] = one_less(hold);
         Course {
             done,
             gap: 0,
@@ -108,7 +127,7 @@ impl Course {
     // Processor i's passage is done.
     pub(crate) fn over(self, i: usize) -> Course
         requires { ⌜ (i < 64) × (getD (self .done) i 0 < 65535) ⌝ }
-        ensures { λ r. ⌜ courseOf r ≡ record { at = upd (courseOf self .at) i 1; left = courseOf self .left; done = upd (courseOf self .done) i (courseOf self .done i + 1) } ⌝ }
+        ensures { λ r. ⌜ courseOf r ≡ ended (courseOf self) i 0 ⌝ }
     {
         let mut done = self.done;
         done[i] = done[i] + 1;
@@ -126,14 +145,14 @@ impl Course {
     // Processor i leaves the barrier: its passage is done, and its hold turns follow.
     pub(crate) fn leaves(self, i: usize, hold: u8) -> Course
         requires { ⌜ (i < 64) × (getD (self .done) i 0 < 65535) ⌝ }
-        ensures { λ r. ⌜ courseOf r ≡ record { at = upd (courseOf self .at) i 1; left = upd (courseOf self .left) i hold; done = upd (courseOf self .done) i (courseOf self .done i + 1) } ⌝ }
+        ensures { λ r. ⌜ courseOf r ≡ ended (courseOf self) i hold ⌝ }
     {
         let mut done = self.done;
         done[i] = done[i] + 1;
         let mut at = self.at;
-        at[i] = 1;
+        at[i] = after_hold(1, hold);
         let mut left = self.left;
-        left[i] = hold;
+        left[i] = one_less(hold);
         Course {
             done,
             gap: 0,

@@ -95,7 +95,7 @@ module _ (m : Machine) (s : Settings) (x : m .State) (c : Course) (i : ℕ) wher
 
 -- ---- the course after a step, by where it goes and whether hold turns follow; before a step none are left
 
-same-upd : {A : Type 0} (f : ℕ → A) (i : ℕ) (v : A) → v ≡ f i → upd f i v ≡ f
+pub same-upd : {A : Type 0} (f : ℕ → A) (i : ℕ) (v : A) → v ≡ f i → upd f i v ≡ f
 same-upd f i v e = fun-ext (λ j. go j (ℕ-discrete j i))
   where
     go : (j : ℕ) → Dec (j ≡ i) → upd f i v j ≡ f j
@@ -109,16 +109,16 @@ module _ {S : Type 0} (s : Settings) (i : ℕ) (c : Course) (w : Step S) (l : c 
   pub after-stay : w .then ≡ stay → holding (w .says) ≡ false → c ≡ course.course s i (makes w) c
   after-stay e h = rw (e, h, none-left)
 
-  pub after-to : (k : ℕ) → w .then ≡ to k → holding (w .says) ≡ false → record { at = upd (c .at) i k; left = c .left; done = c .done } ≡ course.course s i (makes w) c
-  after-to k e h = rw (e, h, none-left)
+  pub after-to : (k : ℕ) → w .then ≡ to k → holding (w .says) ≡ false → record { at = upd (c .at) i k; left = upd (c .left) i 0; done = c .done } ≡ course.course s i (makes w) c
+  after-to k e h = rw (e, h)
 
   pub after-grant : (k : ℕ) → w .then ≡ to k → holding (w .says) ≡ true
       → record { at = upd (c .at) i k; left = upd (c .left) i (entry (s .hold) i); done = c .done } ≡ course.course s i (makes w) c
   after-grant k e h = rw (e, h)
 
   pub after-over : w .then ≡ over → holding (w .says) ≡ false
-      → record { at = upd (c .at) i 1; left = c .left; done = upd (c .done) i (c .done i + 1) } ≡ course.course s i (makes w) c
-  after-over e h = rw (e, h, none-left)
+      → record { at = upd (c .at) i 1; left = upd (c .left) i 0; done = upd (c .done) i (c .done i + 1) } ≡ course.course s i (makes w) c
+  after-over e h = rw (e, h)
 
   pub after-leave : w .then ≡ over → holding (w .says) ≡ true
       → record { at = upd (c .at) i 1; left = upd (c .left) i (entry (s .hold) i); done = upd (c .done) i (c .done i + 1) } ≡ course.course s i (makes w) c

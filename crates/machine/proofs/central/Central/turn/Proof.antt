@@ -17,7 +17,7 @@ place z = search needs
 held-requires : tie.Need-held-requires
 held-requires c κs =
     let d : tie.After-due = search needs in
-    (search needs, held-some _ _ _ (d .due .result) (d .due .ensures) (search needs))
+    (search needs, held-some _ _ _ _ _ _ (d .due .result) (d .due .ensures) (search needs))
 
 returns : tie.Need-returns
 returns c =

@@ -1,8 +1,9 @@
 -- `machine::course::Course::over` meets its contract.
 use borrow.Author.Needs.{needs}
-use mathlib.Core.Path.{_≡_, refl}
+use mathlib.Core.Path.{refl}
+use native.Mathlib.Omega.{arith}
 use Rattle.rules.proofs.Views.{view-put, view-at}
-use Rattle.machine.proofs.Courses.{Rows, same-course}
+use Rattle.machine.proofs.Courses.{Rows, same-course, steps-put, lefts-none}
 use Rattle.machine.proofs.course.Course.over.Statement.{statement}
 use Rattle.machine.proofs.course.Course.over.Tie as tie
 
@@ -10,10 +11,9 @@ returns : tie.Need-returns
 returns c =
     let z : tie.Start = search needs in
     let r : Rows (z .args .self) (z .args .i) = search needs in
-    same-course _ _ (view-put 1 (r .at) refl) refl (view-put 0 (r .done) (rw (view-at 0 (r .done))))
+    same-course _ _ (steps-put _ _ r _ _ refl) (lefts-none _ _ r _ (omega arith)) (view-put 0 (r .done) (rw (view-at 0 (r .done))))
 
 pub over-spec : {M : Type 1} → statement M
 over-spec =
     tie.close
-    (tie.spec (λ c. search needs) (λ c. search needs) (λ c. search needs) (λ c. search needs) (λ c. search needs)
-    (λ c. search needs) returns)
+    (tie.spec (λ c. search needs) (λ c. search needs) (λ c. search needs) (λ c. search needs) (λ c. search needs) (λ c. search needs) returns)

@@ -1,12 +1,12 @@
 -- `machine::course::Course::start` meets its contract.
 use borrow.Author.Needs.{needs}
 use Rattle.rules.proofs.Views.{view-blank}
-use Rattle.machine.proofs.Courses.{same-course}
+use Rattle.machine.proofs.Courses.{same-course, first-steps, first-lefts}
 use Rattle.machine.proofs.course.Course.start.Statement.{statement}
 use Rattle.machine.proofs.course.Course.start.Tie as tie
 
 returns : tie.Need-returns
-returns c = same-course _ _ (view-blank 64 1) (view-blank 64 0) (view-blank 64 0)
+returns c = same-course _ _ (first-steps 64) (first-lefts 64) (view-blank 64 0)
 
 pub start-spec : {M : Type 1} → statement M
 start-spec =
