@@ -4,6 +4,7 @@ use crate::course::Due;
 use crate::made;
 use crate::made::Made;
 ghost use mathlib.Core.Path.{_≡_};
+ghost use mathlib.Core.Bool.{false};
 ghost use Prim.Native.Nat.{ℕ, _<_, _≤_, _+_, _-_, _*_, _/_, _%_, _^_};
 ghost use lib.Dec.{eqb};
 ghost use lib.ListN.{getD};
@@ -75,6 +76,16 @@ fn partner(w: u16, k: u8, procs: u16) -> u16
     ensures { λ r. ⌜ (r ≡ (w + 2 ^ k) % procs) × (r < procs) ⌝ }
 {
     (w + (1u16 << k)) % procs
+}
+
+// The access to a partner's flag: at step 1 it is the arrival.
+fn telling(j: u16, step: u8) -> Made
+    ensures { λ r. ⌜ r ≡ record { owner = j; first = pick (eqb step 1) 4 0; second = 0; began = eqb step 1; done = false; spin = false; idle = false } ⌝ }
+{
+    if step == 1 {
+        return made::first(j, made::ARRIVE);
+    }
+    made::later(j, 0, 0)
 }
 
 impl Flags {
@@ -152,44 +163,31 @@ impl Dissem {
             }
             Due::Step(step) => step,
         };
-        // Every arm returns: the state is then copied nowhere.
-        match step {
-            1 => {
-                if procs == 1 {
-                    return Dissem::of(flags, course.leaves(i, hold), made::alone(w));
-                }
-                let j = partner(w, 0, procs);
-                return Dissem::of(
-                    flags.tells(i, j as usize),
-                    course.goes(i, 2),
-                    made::first(j, made::ARRIVE),
-                );
-            }
-            2 => {
-                let words = flags.flags;
-                let own = flags.own;
-                let o = own[i];
-                if bit(words[i], variable(o)) == sense(o) {
-                    if o / 4 + 1 == levels {
-                        return Dissem::of(
-                            flags.leaves(i),
-                            course.leaves(i, hold),
-                            made::last(w, made::LEAVE),
-                        );
-                    }
-                    return Dissem::of(flags.goes_on(i), course.goes(i, 3), made::later(w, 0, 0));
-                }
+        let own = flags.own;
+        let o = own[i];
+        // Every way returns: the state is then copied nowhere.
+        if step == 2 {
+            let words = flags.flags;
+            if bit(words[i], variable(o)) != sense(o) {
                 return Dissem::of(flags, course, made::spin(w));
             }
-            _ => {
-                let own = flags.own;
-                let j = partner(w, own[i] / 4, procs);
+            if o / 4 + 1 == levels {
                 return Dissem::of(
-                    flags.tells(i, j as usize),
-                    course.goes(i, 2),
-                    made::later(j, 0, 0),
+                    flags.leaves(i),
+                    course.leaves(i, hold),
+                    made::last(w, made::LEAVE),
                 );
             }
+            return Dissem::of(flags.goes_on(i), course.goes(i, 3), made::later(w, 0, 0));
         }
+        if procs == 1 {
+            return Dissem::of(flags, course.leaves(i, hold), made::alone(w));
+        }
+        let j = partner(w, o / 4, procs);
+        Dissem::of(
+            flags.tells(i, j as usize),
+            course.goes(i, 2),
+            telling(j, step),
+        )
     }
 }
