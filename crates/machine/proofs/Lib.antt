@@ -1,13 +1,6 @@
-pub mod Courses
-pub mod Turning
 pub mod Counting
 pub mod Looping
 pub mod Deciding
-pub mod TicketTurns
-pub mod McsTurns
-pub mod CentralTurns
-pub mod DissemFlags
-pub mod DissemTurns
 pub mod Walk
 pub mod Lent
 pub mod Tables

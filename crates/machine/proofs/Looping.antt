@@ -21,7 +21,7 @@ use Rattle.rules.proofs.Counts.{Table≤}
 use Rattle.rules.proofs.Turned.{Told, told, Turned, one-if, counted, same-tally, codes≤, done-told}
 use Rattle.rules.proofs.Going.{Going, As, going-first, going-all, going-past, going-next, as-next}
 use Rattle.machine.specs.declared.played.Played.{Played}
-use Rattle.machine.specs.View.{Starts, Turns}
+use Rattle.turns.specs.View.{Starts, Turns}
 use Rattle.machine.specs.CountView.{numbers, doneOf, tallyOf, Room, Counted, Noted}
 use Rattle.machine.specs.PlayView.{Ready, PlayedIs}
 

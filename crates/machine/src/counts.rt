@@ -1,12 +1,12 @@
 // What is counted of the turns taken: the same for all machines.
-use crate::made::Made;
+use turns::Made;
 ghost use mathlib.Core.Path.{_≡_};
 ghost use Prim.Native.Nat.{_<_, _≤_, _+_, max};
 ghost use lib.Dec.{eqb};
 ghost use lib.ListN.{length, getD};
 ghost use Rattle.rules.specs.Memory.{pick};
 ghost use Rattle.rules.proofs.Turned.{one-if};
-ghost use Rattle.machine.specs.View.{toldOf};
+ghost use Rattle.turns.specs.View.{toldOf};
 ghost use Rattle.machine.specs.CountView.{Counted, Noted, Room};
 
 // 1 for a remote access of processor w, else 0.

@@ -1,17 +1,10 @@
-// The machines, one turn at a time, and the run over a schedule.
-mod central;
+// The run over a schedule.
 mod core;
 mod counts;
-mod course;
-mod dissem;
-mod levels;
 mod loops;
-mod made;
-mod mcs;
 mod played;
 mod running;
 mod table;
-mod ticket;
 
 pub use running::Tallied;
 pub use running::run;

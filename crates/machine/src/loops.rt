@@ -1,15 +1,15 @@
 // The run over a schedule, a loop for each machine: a turn of one struct for all would copy what it does not touch.
-use crate::central::Central;
 use crate::counts::count;
 use crate::counts::far_of;
 use crate::counts::note;
-use crate::dissem::Dissem;
-use crate::levels::levels;
-use crate::mcs::Mcs;
 use crate::played::End;
 use crate::played::Played;
-use crate::ticket::Ticket;
 use settings::Settings;
+use turns::Central;
+use turns::Dissem;
+use turns::Mcs;
+use turns::Ticket;
+use turns::levels;
 ghost use lib.ListN.{length};
 ghost use Rattle.rules.specs.Ticket as ticket;
 ghost use Rattle.rules.specs.Mcs as mcs;
