@@ -5,3 +5,4 @@ pub mod McsTurns
 pub mod CentralTurns
 pub mod DissemFlags
 pub mod DissemTurns
+pub mod OneOutcome
