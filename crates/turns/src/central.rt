@@ -12,14 +12,14 @@ ghost use Rattle.turns.specs.CentralView.{gateOf, stateOf, courseIn};
 
 // The count and the sense, and each processor's local sense. True is 1.
 pub(crate) struct Gate {
-    local: [u8; 64],
     count: u16,
     sense: u8,
+    local: [u8; 64],
 }
 
 pub struct Central {
-    gate: Gate,
     course: Course,
+    gate: Gate,
     pub made: Made,
 }
 
