@@ -12,7 +12,7 @@ use Rattle.rules.specs.Memory.{pick, upd, each}
 use Rattle.rules.specs.Course as rules
 use Rattle.rules.proofs.Store.{upd-same, upd-other}
 use Rattle.rules.proofs.Turned.{same-upd}
-use Rattle.rules.proofs.Views.{view, Place, view-at, view-put, view-blank}
+use Rattle.rules.proofs.Views.{view, Place, view-at, view-put, view-part, view-rest, view-blank}
 use Rattle.turns.specs.declared.course.Course.{Course}
 use Rattle.turns.specs.declared.course.Due.{Due}
 use Rattle.turns.specs.declared.course.Due.the-variants.{Hold, Idle, Step}
@@ -53,9 +53,7 @@ both g p q i v u = fun-ext (λ j. go j (ℕ-discrete j i))
 module _ (c : Course) (i : ℕ) (r : Rows c i) (v : ℕ) where
   pub steps-put : (k : ℕ) → v % holds ≡ k → steps (set (c .at) i v) ≡ upd (steps (c .at)) i k
   unfolding steps
-  steps-put k e =
-      ap {B = ℕ → ℕ} (λ (f : ℕ → ℕ) (j : ℕ). f j % holds) (view-put 1 (r .at) refl)
-      ∙ both (λ (a b : ℕ). a % holds) (view 1 (c .at)) (view 1 (c .at)) i v v ∙ ap (upd (λ (j : ℕ). view 1 (c .at) j % holds) i) e
+  steps-put k e = view-part (λ (b : ℕ). b % holds) 1 (r .at) e
 
   pub lefts-put : (u h : ℕ) → leftIn v u ≡ h → lefts (set (c .at) i v) (set (c .left) i u) ≡ upd (lefts (c .at) (c .left)) i h
   unfolding lefts
@@ -92,8 +90,8 @@ module _ (c : Course) (i : ℕ) (r : Rows c i) (h : holds ≤ getD (c .at) i 0) 
   pub held-steps : steps (set (c .at) i v) ≡ steps (c .at)
   unfolding steps
   held-steps =
-      let k : v % holds ≡ view 1 (c .at) i % holds = rw (view-at 1 (r .at)) (after-step (getD (c .at) i 0 % holds) (getD (c .left) i 0) v (omega arith) e) in
-      steps-put c i r v (view 1 (c .at) i % holds) k ∙ same-upd _ i _ refl
+      view-rest (λ (b : ℕ). b % holds) 1 (r .at)
+      (rw (view-at 1 (r .at)) (after-step (getD (c .at) i 0 % holds) (getD (c .left) i 0) v (omega arith) e))
 
   pub held-lefts : (u : ℕ) → u ≡ getD (c .left) i 0 - 1 → lefts (set (c .at) i v) (set (c .left) i u) ≡ upd (lefts (c .at) (c .left)) i (lefts (c .at) (c .left) i - 1)
   unfolding lefts
