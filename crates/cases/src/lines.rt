@@ -1,8 +1,8 @@
 // The lines that document 01 names, and one before each case.
+use crate::trial::RECORDS;
 use libc::STDOUT_FILENO;
 use machine::Answer;
 use machine::Record;
-use settings::MOST_PROCS;
 
 fn print_number(n: u64) {
     io::print_decimal(STDOUT_FILENO, n);
@@ -43,9 +43,9 @@ fn print_record(i: usize, r: Record) {
     print_byte(b'\n');
 }
 
-fn print_records(table: [Record; MOST_PROCS], procs: usize) {
+fn print_records(table: [Record; RECORDS], procs: usize) {
     let mut i: usize = 0;
-    while i < MOST_PROCS {
+    while i < RECORDS {
         if i < procs {
             let r = table[i];
             print_record(i, r);
@@ -80,7 +80,7 @@ fn print_events(events: &[u16]) {
     print_byte(b'\n');
 }
 
-pub fn print_run(answer: Answer, table: [Record; MOST_PROCS], procs: usize, events: &[u16]) {
+pub fn print_run(answer: Answer, table: [Record; RECORDS], procs: usize, events: &[u16]) {
     print_line(b"turns=", answer.turns as u64);
     print_line(b"stop=", answer.stop as u64);
     print_line(b"remote=", answer.total as u64);

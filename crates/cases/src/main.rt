@@ -1,15 +1,17 @@
-// Plays the cases of standard input over `tallies` and prints what each gave; tools/cases makes the input and what has to come out.
-// Numbers: how many cases; for each the room for events, the settings, the number of turns, and a row that is said over and over
-// until there are that many. `touched` and `not bare` are printed where a run broke what document 01 says of lent memory and refusals.
+// Plays the cases of standard input over `run` and prints what each gave; tools/cases makes the input and what has to come out.
+// Numbers: how many cases; for each the room for events, the records of the table, the settings, the number of turns, and a row that is
+// said over and over until there are that many. `touched` and `not bare` are printed where a run broke what document 01 says of lent
+// memory and refusals.
 mod input;
 mod lines;
+mod trial;
 
 use libc::STDOUT_FILENO;
 use machine::Answer;
-use machine::Record;
-use machine::Tallied;
-use settings::MOST_PROCS;
 use std::num::wrapping_add_usize;
+use trial::MARK;
+use trial::RECORDS;
+use trial::Trial;
 ghost use Prim.Native.Nat.{_≤_};
 
 const MOST_BYTES: usize = 300000;
@@ -18,8 +20,6 @@ const MOST_BYTES: usize = 300000;
 const TURNS: usize = 16400;
 
 const ROOM: usize = 33000;
-
-const MARK: u16 = 9999;
 
 fn at_most(n: usize, most: usize) -> usize
     ensures { λ r. ⌜ r ≤ most ⌝ }
@@ -38,32 +38,13 @@ fn is_marked(row: &[u16]) -> bool {
     true
 }
 
-fn is_zero(r: Record) -> bool {
-    r.done == 0 && r.remote == 0 && r.most == 0 && r.spins == 0 && r.idle == 0
-}
-
-// Whether the records from a place on are zero.
-fn is_zero_from(table: [Record; MOST_PROCS], from: usize) -> bool {
-    let mut i: usize = 0;
-    while i < MOST_PROCS {
-        if i >= from {
-            let r = table[i];
-            if !is_zero(r) {
-                return false;
-            }
-        }
-        i += 1;
-    }
-    true
-}
-
 // Whether a refusal answers zero for all other numbers.
 fn is_bare(a: Answer) -> bool {
     a.turns == 0 && a.stop == 0 && a.events == 0 && a.total == 0
 }
 
 // The records and events that had to be written are printed; the rest had to stay.
-fn show(t: Tallied, procs: usize, events: &[u16]) {
+fn show(t: Trial, procs: usize, events: &[u16]) {
     let answer = t.answer;
     let table = t.table;
     let written = at_most(answer.events, events.len());
@@ -77,23 +58,24 @@ fn show(t: Tallied, procs: usize, events: &[u16]) {
             io::write_all(STDOUT_FILENO, b"not bare\n");
         }
     }
-    if !is_marked(&events[written..]) || !is_zero_from(table, records) {
+    if !is_marked(&events[written..]) || !trial::is_marked_from(table, records) {
         io::write_all(STDOUT_FILENO, b"touched\n");
     }
 }
 
-// Plays the case at a place, in rows that are lent for it.
+// Plays the case whose records and settings are at a place, in rows that are lent for it.
 fn play_in(text: &[u8], place: usize, turns_at: usize, schedule: &mut [u16], events: &mut [u16]) {
-    let s = input::settings_at(text, place);
+    let records = at_most(input::size(text, place), RECORDS);
+    let s = input::settings_at(text, wrapping_add_usize(place, 1));
     input::set_turns(text, turns_at, schedule);
-    let t = machine::tallies(s, schedule, events);
+    let t = trial::run_over(s, schedule, events, records);
     show(t, s.procs as usize, events);
 }
 
 // Plays the case at a place and answers the place of the next.
 fn play(text: &[u8], place: usize) -> usize {
-    let settings_at = wrapping_add_usize(place, 1);
-    let turns_at = input::after_settings(text, settings_at);
+    let records_at = wrapping_add_usize(place, 1);
+    let turns_at = input::after_settings(text, wrapping_add_usize(records_at, 1));
     let row_at = wrapping_add_usize(turns_at, 1);
     let room = at_most(input::size(text, place), ROOM);
     let turns = at_most(input::size(text, turns_at), TURNS);
@@ -101,7 +83,7 @@ fn play(text: &[u8], place: usize) -> usize {
     let mut events = [MARK; ROOM];
     play_in(
         text,
-        settings_at,
+        records_at,
         row_at,
         &mut schedule[0..turns],
         &mut events[0..room],

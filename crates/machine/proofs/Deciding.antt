@@ -89,11 +89,10 @@ module _ (s : Settings) (turns before : List ℕ) (room : ℕ) where
       core-ready l = record { accepted = accepted s turns true (sym e) .0; wide = l }
 
       -- a run that is played
-      pub core-played : 2 * length turns ≤ length before → (n : ℕ) → s .algo ≡ n → (after : List ℕ) (p : Played) → PlayedIs (machine n) s turns before after p
+      pub core-played : 2 * length turns ≤ length before → (after : List ℕ) (p : Played) → PlayedIs (machine (s .algo)) s turns before after p
           → OutcomeIs s turns before after room (acceptedAs (s .procs) p)
       unfolding running acceptedRun
-      core-played l n i after p u =
-          let q : PlayedIs (machine (s .algo)) s turns before after p = subst (λ (n : ℕ). PlayedIs (machine n) s turns before after p) (sym i) u in
+      core-played l after p q =
           let a = accepted s turns true (sym e) .0 in
           let z : refusal s turns roomy ≡ 0 = accepts s turns roomy a (rw (le-leb (s .procs) room wide, le-leb (2 * length turns) (length before) l)) in
           record {
@@ -102,6 +101,11 @@ module _ (s : Settings) (turns before : List ℕ) (room : ℕ) where
             in-room = wide;
             in-sums = a .procs-high;
           }
+
+-- a run of the machine n, where that is the machine named
+pub core-by : {s : Settings} {turns before after after′ : List ℕ} {p p′ : Played} {n : ℕ} → s .algo ≡ n → PlayedIs (machine n) s turns before after′ p′ → length after′ ≡ length before → after ≡ after′ → p ≡ p′
+    → PlayedIs (machine (s .algo)) s turns before after p × (length after ≡ length before)
+core-by {s} {turns} {before} {after′ = after′} {p′ = p′} i u l e f = rw (e, f) (subst (λ (n : ℕ). PlayedIs (machine n) s turns before after′ p′) (sym i) u, l)
 
 -- the fourth machine is the only one left
 pub core-fourth : (s : Settings) (turns : List ℕ) → 0 ≡ refusal s turns true → s .algo ≢ 1 → s .algo ≢ 2 → s .algo ≢ 3 → s .algo ≡ 4

@@ -66,22 +66,11 @@ pub(crate) fn core(s: Settings, schedule: &[u16], events: &mut [u16], room: usiz
         return refused(6);
     }
     let algo = s.algo;
-    match algo {
-        1 => {
-            let p = play_ticket(s, schedule, events);
-            return accepted(s.procs, p);
-        }
-        2 => {
-            let p = play_mcs(s, schedule, events);
-            return accepted(s.procs, p);
-        }
-        3 => {
-            let p = play_central(s, schedule, events);
-            return accepted(s.procs, p);
-        }
-        _ => {
-            let p = play_dissem(s, schedule, events);
-            return accepted(s.procs, p);
-        }
-    }
+    let p = match algo {
+        1 => play_ticket(s, schedule, events),
+        2 => play_mcs(s, schedule, events),
+        3 => play_central(s, schedule, events),
+        _ => play_dissem(s, schedule, events),
+    };
+    accepted(s.procs, p)
 }

@@ -265,7 +265,7 @@ module _ {M : Type 1} (𝓤 : URA M) (H : Heap 𝓤) (A : Atoms 𝓤) (W : Given
             rewrite ! 1 (λ (m : ℕ). ‵ (fat fullShare t₁₀ l₁₀ 0 (sliceVal (l₄, 0) m))) (sym len) refl $
             -- the array is lent for a lifetime ν of the call
             lft-new ! tt (λ ν. move ! (14 ∷ 1 ∷ []) $
-            use2 W (later (some (λ (γ : GName). ‵ (MutSlice (named 2) (ν ∷ []) R .own (tb zs l₄ γ) (sliceVal (l₄, 0) (length zs) ∷ [])) ⊛ ‵ (flent (ν ∷ []) (Held R (length zs) l₄ 0 γ))))) (lends 𝓤 H A W R 64 (ν ∷ []) l₄ 0 tt (named 2) zs w room) $ await ! tt $ pick ! (λ γ. split ! $
+            use2 W (later (some (λ (γ : GName). ‵ (MutSlice (named 2) (ν ∷ []) R .own (tb zs l₄ γ) (sliceVal (l₄, 0) (length zs) ∷ [])) ⊛ ‵ (flent (ν ∷ []) (Held R (length zs) l₄ 0 γ))))) (lends 𝓤 H A W R 64 l₄ 0 (ν ∷ []) tt (named 2) zs w room) $ await ! tt $ pick ! (λ γ. split ! $
             move ! (24 ∷ 2 ∷ 0 ∷ []) $ use3 W (raw (Run 𝓤 H A mem run .pre (to-run zs l₄ ν γ))) (goes-run zs l₄ ν γ) $
             -- [what `run` asks; the lender's part; _10; …; _9; …; _8; …; _7; …; _6; …; _5; …; that _4 dies; _3; …; _2; …; _1; …; room for _0; …]
             calls-at ! fm (Run 𝓤 H A mem run) known-run (to-run zs l₄ ν γ) (and-then ! (load ! (from ! (stop !)) (look ! (1 + loc 1) refl)) (and-then ! (load ! (from ! (stop !)) (look ! (1 + loc 2) refl)) (and-then ! (load ! (from ! (stop !)) (look ! (2 + loc 8) refl)) (and-then ! (load ! (from ! (stop !)) (look ! (2 + loc 10) refl)) (no-more !))))) (λ w′.
@@ -278,7 +278,7 @@ module _ {M : Type 1} (𝓤 : URA M) (H : Heap 𝓤) (A : Atoms 𝓤) (W : Given
             land ! (from ! (stop !)) (init ! (6 + loc 5) refl (typed-answer an w′ is)) $
             -- the lifetime is ended, and the array comes back at that list
             move ! (1 ∷ []) $ split ! $ move ! (1 ∷ []) $ split ! $ move ! (1 ∷ []) $ split ! $ lft-end ! tt $ move ! (0 ∷ 8 ∷ 5 ∷ []) $
-            use3 W (later (some (λ (v : Val). ‵ (fat fullShare t₄ l₄ 0 v) ⊛ ‵ (Rs .own (ws .1 .1 .1 .0) (v ∷ []))))) (back 𝓤 H A W R 64 (ν ∷ []) l₄ 0 γ zs (ws .1 .1 .1 .0) len) $ await ! tt $ pick ! (λ v. split ! $ move ! (1 ∷ []) $
+            use3 W (later (some (λ (v : Val). ‵ (fat fullShare t₄ l₄ 0 v) ⊛ ‵ (Rs .own (ws .1 .1 .1 .0) (v ∷ []))))) (back 𝓤 H A W R 64 l₄ 0 (ν ∷ []) γ zs (ws .1 .1 .1 .0) len) $ await ! tt $ pick ! (λ v. split ! $ move ! (1 ∷ []) $
             peeks ! Rs (Is Rs) (shows 𝓤 H A Rs) (ws .1 .1 .1 .0) (v ∷ []) (λ is′.
             -- [what the array owns; _4; true; κ₁; κ₀; what the answer owns; true; the events' last list; _10; …; _9; …; _8; …; _7; …; _6; …; _5; …; that _4 dies; _3; …]
             keep ! (4 ∷ 3 ∷ 7 ∷ 8 ∷ 9 ∷ 10 ∷ 11 ∷ 12 ∷ 13 ∷ 14 ∷ 15 ∷ 16 ∷ 17 ∷ 18 ∷ 19 ∷ 1 ∷ 20 ∷ 21 ∷ 22 ∷ 23 ∷ 24 ∷ 25 ∷ 26 ∷ 27 ∷ 28 ∷ []) $

@@ -1,17 +1,17 @@
--- `cases::is_zero_from` is safe and ends. The loop counts to 64. Assumes nothing.
+-- `cases::trial::is_marked_from` is safe and ends. The loop counts to 65. Assumes nothing.
 use borrow.Author.Needs.{needs}
 use Prim.Native.Nat.{_-_, _≤_}
-use Rattle.cases.proofs.is_zero_from.Statement.{statement}
-use Rattle.cases.proofs.is_zero_from.Tie as tie
+use Rattle.cases.proofs.trial.is_marked_from.Statement.{statement}
+use Rattle.cases.proofs.trial.is_marked_from.Tie as tie
 
 abbrev Inv-loop : tie.InvT-loop
-Inv-loop from table i₀ i = i ≤ 64
+Inv-loop from table i₀ i = i ≤ 65
 
 abbrev μ-loop : tie.MeasureT-loop
-μ-loop from table i₀ i = 64 - i
+μ-loop from table i₀ i = 65 - i
 
-pub is-zero-from-spec : {M : Type 1} → statement M
-is-zero-from-spec =
+pub is-marked-from-spec : {M : Type 1} → statement M
+is-marked-from-spec =
     tie.close
     (tie.spec
     Inv-loop
