@@ -263,7 +263,7 @@ module _ {M : Type 1} (𝓤 : URA M) (H : Heap 𝓤) (A : Atoms 𝓤) (W : Given
             rewrite ! (1 + loc 4) (λ (m : ℕ). ‵ (fat fullShare t₄ l₄ 0 (vint w64 m))) count refl $
             -- a part of the array is lent for a lifetime ν of the call
             lft-new ! tt (λ ν. move ! (14 ∷ 1 ∷ []) $
-            use2 W (later (some (λ (γ : GName). (‵ (MutSlice (named 2) (ν ∷ []) R .own (tb (take k zs) l₅ γ) (sliceVal (l₅, 0) (length (take k zs)) ∷ [])) ⊛ ‵ (flent (ν ∷ []) (Held R (length (take k zs)) l₅ 0 γ))) ⊛ ‵ (After 𝓤 H A W R 65 l₅ 0 (ν ∷ []) k zs)))) (lends-part 𝓤 H A W R 65 l₅ 0 (ν ∷ []) k zs tt (named 2) w room) $ await ! tt $ pick ! (λ γ. split ! $ split ! $
+            use2 W (later (some (λ (γ : GName). (‵ (MutSlice (named 2) (ν ∷ []) R .own (tb (take k zs) l₅ γ) (sliceVal (l₅, 0) (length (take k zs)) ∷ [])) ⊛ ‵ (flent (ν ∷ []) (Held R (length (take k zs)) l₅ 0 γ))) ⊛ ‵ (After R l₅ 0 k zs)))) (lends-part 𝓤 H A W R 65 l₅ 0 (ν ∷ []) k zs tt (named 2) w room) $ await ! tt $ pick ! (λ γ. split ! $ split ! $
             move ! (27 ∷ 3 ∷ 0 ∷ []) $ use3 W (raw (Run 𝓤 H A mem run .pre (to-run (take k zs) l₅ ν γ))) (goes-run (take k zs) l₅ ν γ) $
             -- [what `run` asks; the lender's part; what was not lent; _11; …; _10; …; _9; …; _8; …; _7; …; _6; …; that _5 dies; _4; …; _3; …; _2; …; _1; …; room for _0; …]
             calls-at ! fm (Run 𝓤 H A mem run) known-run (to-run (take k zs) l₅ ν γ) (and-then ! (load ! (from ! (stop !)) (look ! (2 + loc 1) refl)) (and-then ! (load ! (from ! (stop !)) (look ! (2 + loc 2) refl)) (and-then ! (load ! (from ! (stop !)) (look ! (3 + loc 9) refl)) (and-then ! (load ! (from ! (stop !)) (look ! (3 + loc 11) refl)) (no-more !))))) (λ w′.
