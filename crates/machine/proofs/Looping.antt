@@ -18,7 +18,7 @@ use Rattle.rules.specs.Calls.{over}
 use Rattle.rules.proofs.Accepted.{Accepted, Below}
 use Rattle.rules.proofs.Views.{column, column-blank, over-next}
 use Rattle.rules.proofs.Counts.{Table≤}
-use Rattle.rules.proofs.Turned.{Told, told, Turned, one-if, counted, same-tally, codes≤, done-told}
+use Rattle.rules.proofs.Turned.{Told, told, OneKind, told-one, Turned, one-if, counted, same-tally, codes≤, done-told}
 use Rattle.rules.proofs.Going.{Going, As, going-first, going-all, going-past, going-next, as-next}
 use Rattle.machine.specs.declared.played.Played.{Played}
 use Rattle.machine.specs.View.{Starts, Turns}
@@ -102,8 +102,11 @@ module _ (m : Machine) (s : Settings) (turns events₀ : List ℕ) where
     unfolding column
     held-room w l e =
         let b : w < mostProcs = omega (arith, held-turn l .0, held-turn l .1) in
-        record { place = omega (arith, h .sums); few = λ j u. few j u (held-turn l .2) }
+        record { place = omega (arith, h .sums); few = λ j u. few j u (held-turn l .2); low = low w }
       where
+        low : (w : ℕ) → tallyOf a total .here w ≤ tallyOf a total .most w
+        low = rw (h .has .tally) at (h .going .low)
+
         t : Table≤ k c (tallyOf a total)
         t = rw (h .has .course, h .has .tally) at (h .going .small)
 
@@ -140,6 +143,9 @@ module _ (m : Machine) (s : Settings) (turns events₀ : List ℕ) where
 
       tells : d ≡ told w (h .r .course .at w) (next m s (h .r) w)
       tells = rw (h .has .memory, h .has .course) (turned .tells)
+
+      pub held-one : OneKind d
+      held-one = rw tells (told-one w (h .r .course .at w) (next m s (h .r) w))
 
       total-is : total ≡ h .r .tally .total
       total-is = ap (λ (z : Tally). z .total) (sym (h .has .tally))

@@ -1,6 +1,6 @@
 -- A turn as a program makes it: the memory and the course after it, and what is told of it to those who count.
 use mathlib.Core.Path.{_≡_, refl, sym, ap, ap₂, _∙_, fun-ext}
-use mathlib.Core.Bool.{Bool, true, false, _&&_}
+use mathlib.Core.Bool.{Bool, true, false, _&&_, false≢true}
 use mathlib.Core.List.{List, [], _∷_, _++_, map}
 use Prim.Native.Nat.{ℕ, zero, suc, _+_, _-_, _≤_, _<_, max}
 use native.Mathlib.Decide.{ℕ-discrete}
@@ -27,6 +27,11 @@ pub record Told : Type 0 where
   pub spin : Bool
   pub idle : Bool
 
+-- it counts as one thing: a spin is not idle and ends no passage, and an idle turn ends none
+pub record OneKind (d : Told) : Type 0 where
+  pub of-spin : d .spin ≡ true → (d .idle ≡ false) × (d .done ≡ false)
+  pub of-idle : d .idle ≡ true → d .done ≡ false
+
 abbrev pub stays : Next → Bool
 stays stay = true
 stays (to k) = false
@@ -52,6 +57,16 @@ abbrev pub told : {S : Type 0} → ℕ → ℕ → Turn S → Told
 told i at holds = record { far = 0; codes = []; began = false; done = false; spin = false; idle = false }
 told i at idles = record { far = 0; codes = []; began = false; done = false; spin = false; idle = true }
 told i at (makes w) = toldStep i at w
+
+pub told-one : {S : Type 0} (i at : ℕ) (w : Turn S) → OneKind (told i at w)
+told-one i at holds = record { of-spin = λ e. (refl, refl); of-idle = λ e. refl }
+told-one i at idles = record { of-spin = λ e. absurd (false≢true e); of-idle = λ e. refl }
+told-one i at (makes w) = record { of-spin = λ e. (refl, go (w .then) e); of-idle = λ e. absurd (false≢true e) }
+  where
+    go : (x : Next) → stays x ≡ true → ends x ≡ false
+    go stay e = refl
+    go (to k) e = refl
+    go over e = sym e
 
 -- processor i's turn in state x, on course c, leads to x′ and c′, and d is told of it
 pub record Turned (m : Machine) (s : Settings) (x : m .State) (c : Course) (i : ℕ) (x′ : m .State) (c′ : Course) (d : Told) : Type 0 where
@@ -95,7 +110,7 @@ module _ (m : Machine) (s : Settings) (x : m .State) (c : Course) (i : ℕ) wher
 
 -- ---- the course after a step, by where it goes and whether hold turns follow; before a step none are left
 
-same-upd : {A : Type 0} (f : ℕ → A) (i : ℕ) (v : A) → v ≡ f i → upd f i v ≡ f
+pub same-upd : {A : Type 0} (f : ℕ → A) (i : ℕ) (v : A) → v ≡ f i → upd f i v ≡ f
 same-upd f i v e = fun-ext (λ j. go j (ℕ-discrete j i))
   where
     go : (j : ℕ) → Dec (j ≡ i) → upd f i v j ≡ f j
