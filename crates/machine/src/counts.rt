@@ -10,7 +10,7 @@ ghost use Rattle.machine.specs.View.{toldOf};
 ghost use Rattle.machine.specs.CountView.{Counted, Noted, Room, begun, farther, sorted};
 
 // 1 for a remote access of processor w, else 0.
-pub(crate) fn far_of(owner: u16, w: u16) -> u16
+pub(crate) fn far_of(owner: u16, w: u16) -> u32
     ensures { λ r. ⌜ (r ≡ pick (eqb owner w) 0 1) × (r ≤ 1) ⌝ }
 {
     if owner == w { 0 } else { 1 }
@@ -67,7 +67,7 @@ fn count_kind(sums: &mut [u16], at: usize, made: Made)
 }
 
 // Adds a turn of processor w to its six numbers.
-pub(crate) fn count(sums: &mut [u16], w: u16, made: Made)
+fn count(sums: &mut [u16], w: u16, made: Made)
     requires { ⌜ (w < 64) × Room w (now sums) × OneKind (toldOf w made) ⌝ }
     ensures { λ r. ⌜ Counted w (toldOf w made) (now (sums .entry)) (now (sums .exit)) ⌝ }
 {
@@ -78,7 +78,7 @@ pub(crate) fn count(sums: &mut [u16], w: u16, made: Made)
 }
 
 // Writes the events of processor w's turn from place n on, and gives the place after them.
-pub(crate) fn note(events: &mut [u16], n: usize, w: u16, made: Made) -> usize
+fn note(events: &mut [u16], n: usize, w: u16, made: Made) -> usize
     requires { ⌜ (w < 64) × (n + 2 ≤ length (now events)) ⌝ }
     ensures { λ r. ⌜ Noted (now (events .entry)) n (toldOf w made .codes) (now (events .exit)) r ⌝ }
 {
@@ -91,4 +91,13 @@ pub(crate) fn note(events: &mut [u16], n: usize, w: u16, made: Made) -> usize
     }
     events[n + 1] = (made.second as u16) * 256 + w;
     n + 2
+}
+
+// Counts processor w's turn and writes its events from place n on, and gives the place after them.
+pub(crate) fn tell(sums: &mut [u16], events: &mut [u16], n: usize, w: u16, made: Made) -> usize
+    requires { ⌜ (w < 64) × Room w (now sums) × OneKind (toldOf w made) × (n + 2 ≤ length (now events)) ⌝ }
+    ensures { λ r. ⌜ Counted w (toldOf w made) (now (sums .entry)) (now (sums .exit)) × Noted (now (events .entry)) n (toldOf w made .codes) (now (events .exit)) r ⌝ }
+{
+    count(sums, w, made);
+    note(events, n, w, made)
 }

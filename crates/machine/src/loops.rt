@@ -1,8 +1,7 @@
 // The run over a schedule, a loop for each machine: a turn of one struct for all would copy what it does not touch.
 use crate::central::Central;
-use crate::counts::count;
 use crate::counts::far_of;
-use crate::counts::note;
+use crate::counts::tell;
 use crate::dissem::Dissem;
 use crate::levels::levels;
 use crate::mcs::Mcs;
@@ -37,13 +36,12 @@ pub(crate) fn play_ticket(s: Settings, schedule: &[u16], events: &mut [u16]) -> 
         let i = w as usize;
         machine = machine.turn(w, s.home, rounds[i], hold[i] as u8);
         let made = machine.made;
-        let far = far_of(made.owner, w) as u32;
+        let far = far_of(made.owner, w);
         if s.budget < total + far {
             break End { stop: 1, taken: k };
         }
         total = total + far;
-        count(&mut sums, w, made);
-        n = note(events, n, w, made);
+        n = tell(&mut sums, events, n, w, made);
         k = k + 1;
     };
     Played {
@@ -74,13 +72,12 @@ pub(crate) fn play_mcs(s: Settings, schedule: &[u16], events: &mut [u16]) -> Pla
         let i = w as usize;
         machine = machine.turn(w, s.home, rounds[i], hold[i] as u8);
         let made = machine.made;
-        let far = far_of(made.owner, w) as u32;
+        let far = far_of(made.owner, w);
         if s.budget < total + far {
             break End { stop: 1, taken: k };
         }
         total = total + far;
-        count(&mut sums, w, made);
-        n = note(events, n, w, made);
+        n = tell(&mut sums, events, n, w, made);
         k = k + 1;
     };
     Played {
@@ -111,13 +108,12 @@ pub(crate) fn play_central(s: Settings, schedule: &[u16], events: &mut [u16]) ->
         let i = w as usize;
         machine = machine.turn(w, s.home, s.procs, rounds[i], hold[i] as u8);
         let made = machine.made;
-        let far = far_of(made.owner, w) as u32;
+        let far = far_of(made.owner, w);
         if s.budget < total + far {
             break End { stop: 1, taken: k };
         }
         total = total + far;
-        count(&mut sums, w, made);
-        n = note(events, n, w, made);
+        n = tell(&mut sums, events, n, w, made);
         k = k + 1;
     };
     Played {
@@ -149,13 +145,12 @@ pub(crate) fn play_dissem(s: Settings, schedule: &[u16], events: &mut [u16]) -> 
         let i = w as usize;
         machine = machine.turn(w, s.procs, levels, rounds[i], hold[i] as u8);
         let made = machine.made;
-        let far = far_of(made.owner, w) as u32;
+        let far = far_of(made.owner, w);
         if s.budget < total + far {
             break End { stop: 1, taken: k };
         }
         total = total + far;
-        count(&mut sums, w, made);
-        n = note(events, n, w, made);
+        n = tell(&mut sums, events, n, w, made);
         k = k + 1;
     };
     Played {

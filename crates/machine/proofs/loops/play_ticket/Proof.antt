@@ -1,17 +1,15 @@
 -- `machine::loops::play_ticket` meets its contract.
 use borrow.Author.Needs.{needs}
-use mathlib.Core.Path.{_≡_, refl, sym, ap, _∙_}
-use mathlib.Core.List.{List}
-use Prim.Native.Nat.{ℕ, _+_, _-_, _≤_, _<_}
+use mathlib.Core.Path.{refl}
+use Prim.Native.Nat.{_-_}
 use native.Mathlib.Omega.{arith}
-use lib.ListN.{length, getD}
-use Rattle.rules.specs.Bounds.{mostProcs, mostTurns}
+use lib.ListN.{length}
 use Rattle.rules.specs.Ticket.{machine}
 use Rattle.rules.proofs.Views.{view}
 use Rattle.settings.specs.View.{settingsOf}
 use Rattle.machine.specs.View.{courseOf}
 use Rattle.machine.specs.TicketView.{lockOf}
-use Rattle.machine.proofs.Looping.{Held, held-first, held-turn, held-done, held-total, held-events, held-room, held-all, held-past, held-one, held-next}
+use Rattle.machine.proofs.Looping.{Held, Known, held-first, held-known, held-all, held-tell, held-past, held-next}
 use Rattle.machine.proofs.loops.play_ticket.Statement.{statement}
 use Rattle.machine.proofs.loops.play_ticket.Tie as tie
 
@@ -22,145 +20,60 @@ Inv-loop s schedule events₀ rounds hold machine₀ sums₀ total₀ n₀ k₀ 
 abbrev μ-loop : tie.MeasureT-loop
 μ-loop s schedule events₀ rounds hold machine₀ sums₀ total₀ n₀ k₀ events m sums total n k = length schedule - k
 
-abbrev begin : tie.Else1 Inv-loop μ-loop → tie.Start Inv-loop μ-loop
-begin e = e .before .before .before .before .before .before .before .before
+-- where a turn is left to make
+abbrev Left : Type 0
+Left = tie.Else1 Inv-loop μ-loop
 
-abbrev place : tie.Else1 Inv-loop μ-loop → ℕ
-place e = e .before .loop .k
+-- where it is made, and it is told whether it is remote
+abbrev Made : Type 0
+Made = tie.After-far-of Inv-loop μ-loop
 
--- the processor whose turn it is
-abbrev who : tie.Else1 Inv-loop μ-loop → ℕ
-who e = getD (begin e .args .schedule .now) (place e) 0
+abbrev left : Made → Left
+left f = search needs
 
--- there is a turn, and what is known before it
-more : (e : tie.Else1 Inv-loop μ-loop) → place e < length (begin e .args .schedule .now)
-more e = omega arith
+abbrev turned : Made → tie.After-turn Inv-loop μ-loop
+turned f = search needs
 
-known : (e : tie.Else1 Inv-loop μ-loop) → (who e < begin e .args .s .procs) × (begin e .args .s .procs ≤ mostProcs) × (place e < mostTurns)
-known e = held-turn machine _ _ _ _ _ _ _ _ _ _ (e .before .loop .inv) (more e)
+known : (e : Left) → Known (e .before .loop .inv)
+known e = held-known (e .before .loop .inv) (e .if1 .left)
 
 cast-start : tie.Need-cast-start Inv-loop μ-loop
 cast-start c =
-    let z = c .before .before .before .before .before in
+    let z : tie.Start Inv-loop μ-loop = search needs in
     omega (arith, z .pre .accepted .ticket)
 
 loop-holds : tie.Need-loop-holds Inv-loop μ-loop
 loop-holds c =
-    let z = c .before .before .before .before .before .before in
-    held-first machine _ _ _ _ _ _ (c .start .ensures) refl (z .pre)
-
-cast-i : tie.Need-cast-i Inv-loop μ-loop
-cast-i c =
-    let e = c .before in
-    let h = c .before .before in
-    omega (arith, c .shared-slice-known2 .given (h .loop .k))
-
-mul-turn : tie.Need-mul-turn Inv-loop μ-loop
-mul-turn c =
-    let e = c .before in
-    let h = c .before .before in
-    omega (arith, known e)
-
-mul-turn-2 : tie.Need-mul-turn-2 Inv-loop μ-loop
-mul-turn-2 c =
-    let e = c .before in
-    let h = c .before .before in
-    omega (arith, known e)
-
-array-read-turn : tie.Need-array-read-turn Inv-loop μ-loop
-array-read-turn c =
-    let e = c .before in
-    let h = c .before .before in
-    omega (arith, known e)
-
-array-read-turn-2 : tie.Need-array-read-turn-2 Inv-loop μ-loop
-array-read-turn-2 c =
-    let e = c .before in
-    let h = c .before .before in
-    omega (arith, known e)
-
-cast-turn : tie.Need-cast-turn Inv-loop μ-loop
-cast-turn c =
-    let z = c .before .before .before .before .before .before .before .before .before in
-    let e = c .before in
-    omega (arith, z .pre .accepted .hold .fits (who e) (known e .0))
+    let z : tie.Start Inv-loop μ-loop = search needs in
+    held-first (z .pre) (c .start .ensures) refl
 
 turn-requires : tie.Need-turn-requires Inv-loop μ-loop
 unfolding view
 turn-requires c κs =
-    let e = c .before in
-    let h = c .before .before in
-    (omega (arith, known e), omega (arith, known e, held-done machine _ _ _ _ _ _ _ _ _ _ (h .loop .inv) (who e)))
-
-add-if2 : tie.Need-add-if2 Inv-loop μ-loop
-add-if2 c =
-    let z = c .before .before .before .before .before .before .before .before .before .before .before .before in
-    let h = c .before .before .before .before .before in
-    omega (arith, held-total machine _ _ _ _ _ _ _ _ _ _ (h .loop .inv), z .pre .accepted .budget, c .far-of .ensures .1)
-
-add-total : tie.Need-add-total Inv-loop μ-loop
-add-total c =
-    let z = c .before .before .before .before .before .before .before .before .before .before .before .before .before .before in
-    let h = c .before .before .before .before .before .before .before in
-    let f = c .before .before in
-    omega (arith, held-total machine _ _ _ _ _ _ _ _ _ _ (h .loop .inv), z .pre .accepted .budget, f .far-of .ensures .1)
-
-slice-aggregate-count : tie.Need-slice-aggregate-count Inv-loop μ-loop
-slice-aggregate-count c =
-    let e = c .before .before .before .before .before .before .before in
-    let h = c .before .before .before .before .before .before .before .before in
-    search (h .loop .inv .sums, needs)
-
-count-requires : tie.Need-count-requires Inv-loop μ-loop
-count-requires c κs =
-    let e = c .before .before .before .before .before .before .before in
-    let h = c .before .before .before .before .before .before .before .before in
-    let t = c .before .before .before .before .before in
-    (omega (arith, known e), held-room machine _ _ _ _ _ _ _ _ _ _ (h .loop .inv) (who e) (more e) refl, held-one machine _ _ _ _ _ _ _ _ _ _ (h .loop .inv) (who e) (more e) refl _ refl _ _ refl refl _ _ _ (t .turn .ensures))
-
-note-requires : tie.Need-note-requires Inv-loop μ-loop
-note-requires c κs =
-    let e = c .before .before .before .before .before .before .before .before .before .before in
-    let h = c .before .before .before .before .before .before .before .before .before .before .before in
-    (omega (arith, known e), held-events machine _ _ _ _ _ _ _ _ _ _ (h .loop .inv) (more e))
-
-add-k : tie.Need-add-k Inv-loop μ-loop
-add-k c =
-    let e = c .before .before .before .before .before .before .before .before .before .before .before .before .before in
-    let h = c .before .before .before .before .before .before .before .before .before .before .before .before .before .before in
+    let e : Left = search needs in
     omega (arith, known e)
 
-loop-less : tie.Need-loop-less Inv-loop μ-loop
-loop-less c =
-    let e = c .before .before .before .before .before .before .before .before .before .before .before .before .before in
-    let h = c .before .before .before .before .before .before .before .before .before .before .before .before .before .before in
-    omega (arith, more e)
+tell-requires : tie.Need-tell-requires Inv-loop μ-loop
+tell-requires c κs =
+    let f : Made = search needs in
+    held-tell (left f .before .loop .inv) (left f .if1 .left) (turned f .turn .ensures) refl
 
 loop-again : tie.Need-loop-again Inv-loop μ-loop
 loop-again c =
-    let e = c .before .before .before .before .before .before .before .before .before .before .before .before .before in
-    let h = c .before .before .before .before .before .before .before .before .before .before .before .before .before .before in
-    let t = c .before .before .before .before .before .before .before .before .before .before .before in
-    let f = c .before .before .before .before .before .before .before .before .before in
-    let g = c .before .before .before .before .before .before .before in
-    let u = c .before .before .before .before .before in
-    let n = c .before .before in
-    rw (f .far-of .ensures .0)
-    (held-next machine _ _ _ _ _ _ _ _ _ _ (h .loop .inv) (who e) (more e) refl _ refl _ _ refl refl _ _ _ (t .turn .ensures) (omega (arith, f .far-of .ensures .0, g .if2 .left)) _ _ _
-    (u .count .ensures) (u .count .kept .0) (n .note .ensures))
+    let f : Made = search needs in
+    let g : tie.Else2 Inv-loop μ-loop = search needs in
+    let u : tie.After-tell Inv-loop μ-loop = search needs in
+    held-next (left f .before .loop .inv) (left f .if1 .left) (turned f .turn .ensures) refl (f .far-of .ensures .0) (g .if2 .left) (u .tell .ensures) (u .tell .kept .0)
 
 returns : tie.Need-returns Inv-loop μ-loop
 returns c =
-    let h = c .before in
-    held-all machine _ _ _ _ _ _ _ _ _ _ (h .loop .inv) (c .if1 .taken) _ refl refl refl refl refl
+    let h : tie.At-loop Inv-loop μ-loop = search needs in
+    held-all (h .loop .inv) (c .if1 .taken)
 
 returns-2 : tie.Need-returns-2 Inv-loop μ-loop
 returns-2 c =
-    let e = c .before .before .before .before .before .before in
-    let h = c .before .before .before .before .before .before .before in
-    let t = c .before .before .before .before in
-    let f = c .before .before in
-    held-past machine _ _ _ _ _ _ _ _ _ _ (h .loop .inv) (who e) (more e) refl _ refl _ _ refl refl _ _ _ (t .turn .ensures) (omega (arith, f .far-of .ensures .0, c .if2 .taken)) _ refl refl refl refl refl
+    let f : Made = search needs in
+    held-past (left f .before .loop .inv) (left f .if1 .left) (turned f .turn .ensures) refl (f .far-of .ensures .0) (c .if2 .taken)
 
 pub play-ticket-spec : {M : Type 1} → statement M
 play-ticket-spec =
@@ -169,20 +82,21 @@ play-ticket-spec =
     μ-loop
     cast-start
     (λ c κs. search needs) loop-holds
-    (λ c. search needs) (λ c. search needs) cast-i
-    mul-turn
-    array-read-turn
-    mul-turn-2
-    array-read-turn-2
-    cast-turn
+    (λ c. search needs) (λ c. search needs)
+    (λ c. let e : Left = search needs in omega (arith, known e))
+    (λ c. let e : Left = search needs in omega (arith, known e))
+    (λ c. let e : Left = search needs in omega (arith, known e))
+    (λ c. let e : Left = search needs in omega (arith, known e))
+    (λ c. let e : Left = search needs in omega (arith, known e))
+    (λ c. let e : Left = search needs in omega (arith, known e))
     turn-requires
-    (λ c κs. search needs) (λ c. search needs) add-if2
-    add-total
-    slice-aggregate-count
-    count-requires
-    note-requires
-    add-k
-    loop-less
+    (λ c κs. search needs)
+    (λ c. let e : Left = search needs in omega (arith, known e, c .far-of .ensures .1))
+    (λ c. let f : Made = search needs in omega (arith, known (left f), f .far-of .ensures .1))
+    (λ c. let h : tie.At-loop Inv-loop μ-loop = search needs in search (h .loop .inv .sums, needs))
+    tell-requires
+    (λ c. let e : Left = search needs in omega (arith, known e))
+    (λ c. let e : Left = search needs in omega (arith, known e))
     loop-again
     (λ c. search needs) returns
     (λ c. search needs) returns-2)
