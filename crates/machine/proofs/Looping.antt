@@ -110,6 +110,14 @@ module _ {m : Machine} {s : Settings} {turns events₀ events : List ℕ} {x : m
   pub held-all : k ≡ length turns → PlayedIs m s turns events₀ events (record { stop = 0; taken = k; events = n; total = total; sums = a })
   held-all e = whole-is (h .r) 0 (going-all m s turns k (h .r) (h .going) e) refl refl refl refl (rw (h .going .on) refl)
 
+  -- the turn is made: `tell` may be called, and the run ends before it or goes on after it
+  module _ {P : Settings → Type 0} {x′ : m .State} {c′ : Course} {d : Told} (t : Turns m P who (entry (s .rounds) who) (entry (s .hold) who) x c x′ c′ d) where
+    pub record Made (far : ℕ) : Type 0 where
+      pub tell : (who < mostProcs) × Room who a × OneKind d × (n + 2 ≤ length events)
+      pub past : s .budget < total + far → PlayedIs m s turns events₀ events (record { stop = 1; taken = k; events = n; total = total; sums = a })
+      pub on : total + far ≤ s .budget → {b events′ : List ℕ} {n′ : ℕ} → Counted who d a b × Noted events n (d .codes) events′ n′ → length b ≡ length a
+          → Held m s turns events₀ events′ x′ c′ b (total + far) n′ (k + 1)
+
   -- ---- where a turn is left
 
   module _ (left : k ≡ length turns → ⊥) where
@@ -161,21 +169,17 @@ module _ {m : Machine} {s : Settings} {turns events₀ events : List ℕ} {x : m
       tells : d ≡ told who (h .r .course .at who) (next m s (h .r) who)
       tells = rw (h .has .memory, h .has .course) (turned .tells)
 
-      -- what `tell` requires
-      pub held-tell : (who < mostProcs) × Room who a × OneKind d × (n + 2 ≤ length events)
-      held-tell = (omega (arith, held-known), room-of, rw tells (told-one who (h .r .course .at who) (next m s (h .r) who)), held-known .room)
-
       total-is : total ≡ h .r .tally .total
       total-is = ap (λ (z : Tally). z .total) (sym (h .has .tally))
 
       module _ {far : ℕ} (f : far ≡ d .far) where
-        pub held-past : s .budget < total + far → PlayedIs m s turns events₀ events (record { stop = 1; taken = k; events = n; total = total; sums = a })
-        held-past b =
+        past : s .budget < total + far → PlayedIs m s turns events₀ events (record { stop = 1; taken = k; events = n; total = total; sums = a })
+        past b =
             whole-is (ended (h .r)) 1 (going-past m s turns k (h .r) (h .going) who d (held-known .more) refl tells (omega (arith, total-is))) refl refl refl refl refl
 
-        pub held-next : total + far ≤ s .budget → {b events′ : List ℕ} {n′ : ℕ} → Counted who d a b × Noted events n (d .codes) events′ n′ → length b ≡ length a
+        on : total + far ≤ s .budget → {b events′ : List ℕ} {n′ : ℕ} → Counted who d a b × Noted events n (d .codes) events′ n′ → length b ≡ length a
             → Held m s turns events₀ events′ x′ c′ b (total + far) n′ (k + 1)
-        held-next l (u, v) o =
+        on l (u, v) o =
             let two : length (d .codes) ≤ 2 = rw tells (codes≤ who (h .r .course .at who) (next m s (h .r) who)) in
             record {
               r = taking m s (h .r) who;
@@ -189,3 +193,10 @@ module _ {m : Machine} {s : Settings} {turns events₀ events : List ℕ} {x : m
               long = rw (v .row) (length-sets events n (d .codes)) ∙ h .long;
               sums = o ∙ h .sums;
             }
+
+        pub held-made : Made t far
+        held-made = record {
+          tell = (omega (arith, held-known), room-of, rw tells (told-one who (h .r .course .at who) (next m s (h .r) who)), held-known .room);
+          past = past;
+          on = on;
+        }
