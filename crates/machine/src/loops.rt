@@ -35,13 +35,12 @@ pub(crate) fn play_ticket(s: Settings, schedule: &[u16], events: &mut [u16]) -> 
         let w = schedule[k];
         let i = w as usize;
         machine = machine.turn(w, s.home, rounds[i], hold[i] as u8);
-        let made = machine.made;
-        let far = far_of(made.owner, w);
-        if s.budget < total + far {
+        let paid = total + far_of(machine.made.owner, w);
+        if s.budget < paid {
             break End { stop: 1, taken: k };
         }
-        total = total + far;
-        n = tell(&mut sums, events, n, w, made);
+        total = paid;
+        n = tell(&mut sums, events, n, w, machine.made);
         k = k + 1;
     };
     Played {
@@ -71,13 +70,12 @@ pub(crate) fn play_mcs(s: Settings, schedule: &[u16], events: &mut [u16]) -> Pla
         let w = schedule[k];
         let i = w as usize;
         machine = machine.turn(w, s.home, rounds[i], hold[i] as u8);
-        let made = machine.made;
-        let far = far_of(made.owner, w);
-        if s.budget < total + far {
+        let paid = total + far_of(machine.made.owner, w);
+        if s.budget < paid {
             break End { stop: 1, taken: k };
         }
-        total = total + far;
-        n = tell(&mut sums, events, n, w, made);
+        total = paid;
+        n = tell(&mut sums, events, n, w, machine.made);
         k = k + 1;
     };
     Played {
@@ -107,13 +105,12 @@ pub(crate) fn play_central(s: Settings, schedule: &[u16], events: &mut [u16]) ->
         let w = schedule[k];
         let i = w as usize;
         machine = machine.turn(w, s.home, s.procs, rounds[i], hold[i] as u8);
-        let made = machine.made;
-        let far = far_of(made.owner, w);
-        if s.budget < total + far {
+        let paid = total + far_of(machine.made.owner, w);
+        if s.budget < paid {
             break End { stop: 1, taken: k };
         }
-        total = total + far;
-        n = tell(&mut sums, events, n, w, made);
+        total = paid;
+        n = tell(&mut sums, events, n, w, machine.made);
         k = k + 1;
     };
     Played {
@@ -144,13 +141,12 @@ pub(crate) fn play_dissem(s: Settings, schedule: &[u16], events: &mut [u16]) -> 
         let w = schedule[k];
         let i = w as usize;
         machine = machine.turn(w, s.procs, levels, rounds[i], hold[i] as u8);
-        let made = machine.made;
-        let far = far_of(made.owner, w);
-        if s.budget < total + far {
+        let paid = total + far_of(machine.made.owner, w);
+        if s.budget < paid {
             break End { stop: 1, taken: k };
         }
-        total = total + far;
-        n = tell(&mut sums, events, n, w, made);
+        total = paid;
+        n = tell(&mut sums, events, n, w, machine.made);
         k = k + 1;
     };
     Played {
