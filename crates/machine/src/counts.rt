@@ -49,19 +49,19 @@ fn count_far(sums: &mut [u16], at: usize, owner: u16, w: u16)
 }
 
 // What else the turn was, if any: a spin, an idle turn, or a passage's end.
-fn count_kind(sums: &mut [u16], at: usize, made: Made)
+fn count_kind(sums: &mut [u16], at: usize, spin: bool, idle: bool, done: bool)
     requires { ⌜ (at + 5 < length (now sums)) × (getD (now sums) at 0 < 65535) × (getD (now sums) (at + 4) 0 < 65535) × (getD (now sums) (at + 5) 0 < 65535) ⌝ }
-    ensures { λ r. ⌜ now (sums .exit) ≡ sorted (made .spin) (made .idle) (made .done) at (now (sums .entry)) ⌝ }
+    ensures { λ r. ⌜ now (sums .exit) ≡ sorted spin idle done at (now (sums .entry)) ⌝ }
 {
-    if made.spin {
+    if spin {
         sums[at + 4] = sums[at + 4] + 1;
         return;
     }
-    if made.idle {
+    if idle {
         sums[at + 5] = sums[at + 5] + 1;
         return;
     }
-    if made.done {
+    if done {
         sums[at] = sums[at] + 1;
     }
 }
@@ -74,7 +74,7 @@ fn count(sums: &mut [u16], w: u16, made: Made)
     let at = w as usize * 6;
     begin(sums, at, made.began);
     count_far(sums, at, made.owner, w);
-    count_kind(sums, at, made);
+    count_kind(sums, at, made.spin, made.idle, made.done);
 }
 
 // Writes the events of processor w's turn from place n on, and gives the place after them.
