@@ -1,4 +1,4 @@
--- `machine::loops::play_dissem` meets its contract.
+-- `machine::dissem_loop::play_dissem` meets its contract.
 use borrow.Author.Needs.{needs}
 use mathlib.Core.Path.{_≡_, refl}
 use Prim.Native.Nat.{_-_}
@@ -10,8 +10,8 @@ use Rattle.settings.specs.View.{settingsOf}
 use Rattle.machine.specs.View.{courseOf}
 use Rattle.machine.specs.DissemView.{flagsOf, Sound}
 use Rattle.machine.proofs.Looping.{Held, Known, held-first, held-known, held-all, Made, held-made}
-use Rattle.machine.proofs.loops.play_dissem.Statement.{statement}
-use Rattle.machine.proofs.loops.play_dissem.Tie as tie
+use Rattle.machine.proofs.dissem_loop.play_dissem.Statement.{statement}
+use Rattle.machine.proofs.dissem_loop.play_dissem.Tie as tie
 
 abbrev Inv-loop : tie.InvT-loop
 Inv-loop s schedule events₀ rounds hold levels machine₀ sums₀ total₀ n₀ k₀ events m sums total n k =

@@ -1,21 +1,21 @@
--- `machine::loops::play_central` meets its contract.
+-- `machine::ticket_loop::play_ticket` meets its contract.
 use borrow.Author.Needs.{needs}
 use mathlib.Core.Path.{refl}
 use Prim.Native.Nat.{_-_}
 use native.Mathlib.Omega.{arith}
 use lib.ListN.{length}
-use Rattle.rules.specs.Central.{machine}
+use Rattle.rules.specs.Ticket.{machine}
 use Rattle.rules.proofs.Views.{view}
 use Rattle.settings.specs.View.{settingsOf}
 use Rattle.machine.specs.View.{courseOf}
-use Rattle.machine.specs.CentralView.{gateOf}
+use Rattle.machine.specs.TicketView.{lockOf}
 use Rattle.machine.proofs.Looping.{Held, Known, held-first, held-known, held-all, Made, held-made}
-use Rattle.machine.proofs.loops.play_central.Statement.{statement}
-use Rattle.machine.proofs.loops.play_central.Tie as tie
+use Rattle.machine.proofs.ticket_loop.play_ticket.Statement.{statement}
+use Rattle.machine.proofs.ticket_loop.play_ticket.Tie as tie
 
 abbrev Inv-loop : tie.InvT-loop
 Inv-loop s schedule events₀ rounds hold machine₀ sums₀ total₀ n₀ k₀ events m sums total n k =
-    Held machine (settingsOf s) schedule events₀ events (gateOf (m .gate)) (courseOf (m .course)) sums total n k
+    Held machine (settingsOf s) schedule events₀ events (lockOf (m .lock)) (courseOf (m .course)) sums total n k
 
 abbrev μ-loop : tie.MeasureT-loop
 μ-loop s schedule events₀ rounds hold machine₀ sums₀ total₀ n₀ k₀ events m sums total n k = length schedule - k
@@ -38,7 +38,12 @@ known : (e : Left) → Known (e .before .loop .inv)
 known e = held-known (e .before .loop .inv) (e .if1 .left)
 
 made : (f : After) → Made (left f .before .loop .inv) (turned f .turn .ensures) (f .far-of .result)
-made f = held-made (left f .before .loop .inv) (left f .if1 .left) (turned f .turn .ensures) (refl, refl) (f .far-of .ensures .0)
+made f = held-made (left f .before .loop .inv) (left f .if1 .left) (turned f .turn .ensures) refl (f .far-of .ensures .0)
+
+cast-start : tie.Need-cast-start Inv-loop μ-loop
+cast-start c =
+    let z : tie.Start Inv-loop μ-loop = search needs in
+    omega (arith, z .pre .accepted .ticket)
 
 loop-holds : tie.Need-loop-holds Inv-loop μ-loop
 loop-holds c =
@@ -58,11 +63,12 @@ loop-again c =
     let u : tie.After-tell Inv-loop μ-loop = search needs in
     made f .on (g .if2 .left) (u .tell .ensures) (u .tell .kept .0)
 
-pub play-central-spec : {M : Type 1} → statement M
-play-central-spec =
+pub play-ticket-spec : {M : Type 1} → statement M
+play-ticket-spec =
     tie.close
     (tie.spec Inv-loop
     μ-loop
+    cast-start
     (λ c κs. search needs) loop-holds
     (λ c. search needs) (λ c. search needs)
     (λ c. omega (arith, known (search needs)))
