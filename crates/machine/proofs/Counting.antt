@@ -11,20 +11,19 @@ use lib.Dec.{eqb, ltb}
 use lib.ListN.{length, getD, set, length-set}
 use lib.Seq.{lt-length-set}
 use Rattle.rules.specs.Memory.{pick, upd}
-use Rattle.rules.proofs.Store.{upd-same, upd-other}
+use Rattle.rules.proofs.Store.{upd-same, upd-other, either}
 use Rattle.rules.proofs.Views.{column, column-set, column-other}
-use Rattle.rules.proofs.Turned.{OneKind, one-if, counted, same-tally, same-upd}
+use Rattle.rules.proofs.Turned.{OneKind, one-if, counted, same-tally, same-upd, kept}
 use Rattle.machine.specs.declared.made.Made.{Made}
 use Rattle.machine.specs.View.{toldOf}
-use Rattle.machine.specs.CountView.{doneOf, tallyOf, Room, Counted, begun, farther, more, sorted}
+use Rattle.machine.specs.CountView.{Room, Counted, begun, farther, oneMore, byKind}
 
--- a row as a table of six columns, each a number for every processor
-unfoldable table : List ℕ → ℕ → ℕ → ℕ
+-- six columns, each with a number for every processor
+abbrev Table : Type 0
+Table = ℕ → ℕ → ℕ
+
+unfoldable table : List ℕ → Table
 table row k = pick (ltb k 6) (column 6 k row) (λ o. 0)
-
--- the same number again changes nothing
-kept : (f : ℕ → ℕ) (i : ℕ) → f ≡ upd f i (f i + 0)
-kept f i = sym (same-upd f i (f i + 0) (omega arith))
 
 upd-upd : (f : ℕ → ℕ) (i u v : ℕ) → upd (upd f i u) i v ≡ upd f i v
 upd-upd f i u v = fun-ext (λ j. go j (ℕ-discrete j i))
@@ -35,7 +34,7 @@ upd-upd f i u v = fun-ext (λ j. go j (ℕ-discrete j i))
 
 module _ (w : ℕ) where
   -- v in column j of the processor
-  unfoldable put : ℕ → ℕ → (ℕ → ℕ → ℕ) → ℕ → ℕ → ℕ
+  unfoldable put : ℕ → ℕ → Table → Table
   put j v t = upd t j (upd (t j) w v)
 
   table-set : (row : List ℕ) (j v : ℕ) → j < 6 → w * 6 + 5 < length row → table (set row (w * 6 + j) v) ≡ put j v (table row)
@@ -51,9 +50,6 @@ module _ (w : ℕ) where
       go k (no n) = rw (upd-other (table row) j (upd (table row j) w v) k n) (other k (decLt k 6) n)
 
   -- ---- the parts of `count`, on the table
-
-  abbrev Table : Type 0
-  Table = ℕ → ℕ → ℕ
 
   unfoldable beginsIn : Bool → Table → Table
   beginsIn b t = pick b (put 3 0 t) t
@@ -78,16 +74,16 @@ module _ (w : ℕ) where
     far-table false =
         let here : ℕ = getD row (w * 6 + 3) 0 + 1 in
         let most : ℕ = max (getD row (w * 6 + 2) 0) here in
-        let one : List ℕ = more (w * 6 + 1) row in
+        let one : List ℕ = oneMore (w * 6 + 1) row in
         let q : w * 6 + 5 < length one = lt-length-set row (w * 6 + 1) _ p in
         table-set (set one (w * 6 + 2) most) 3 here (omega arith) (lt-length-set one (w * 6 + 2) most q)
         ∙ ap (put 3 here) (table-set one 2 most (omega arith) q ∙ ap (put 2 most) (table-set row 1 _ (omega arith) p))
 
-    kind-table : (spin idle done : Bool) → table (sorted spin idle done (w * 6) row) ≡ countsIn spin idle done (table row)
+    kind-table : (spin idle done : Bool) → table (byKind spin idle done (w * 6) row) ≡ countsIn spin idle done (table row)
     unfolding countsIn table column
     kind-table true idle done = table-set row 4 _ (omega arith) p
     kind-table false true done = table-set row 5 _ (omega arith) p
-    kind-table false false true = ap (λ (i : ℕ). table (more i row)) (sym (add-zero (w * 6))) ∙ table-set row 0 _ (omega arith) p
+    kind-table false false true = ap (λ (i : ℕ). table (oneMore i row)) (sym (add-zero (w * 6))) ∙ table-set row 0 _ (omega arith) p
     kind-table false false false = refl
 
   module _ (t : Table) where
@@ -96,49 +92,46 @@ module _ (w : ℕ) where
     begins-few true l m = (l, rw (upd-same (t 3) w 0) (omega arith))
     begins-few false l m = (l, m)
 
-    -- what becomes of each column before the turn's kind is counted
+    -- what becomes of each column before it is counted what kind of turn it was
     record Front (began near : Bool) (u : Table) : Type 0 where
-      zeroth : u 0 ≡ t 0
-      first : u 1 ≡ upd (t 1) w (t 1 w + pick near 0 1)
-      second : u 2 ≡ upd (t 2) w (max (t 2 w) (pick began 0 (t 3 w) + pick near 0 1))
-      third : u 3 ≡ upd (t 3) w (pick began 0 (t 3 w) + pick near 0 1)
-      fourth : u 4 ≡ t 4
-      fifth : u 5 ≡ t 5
+      of-done : u 0 ≡ t 0
+      of-far : u 1 ≡ upd (t 1) w (t 1 w + pick near 0 1)
+      of-most : u 2 ≡ upd (t 2) w (max (t 2 w) (pick began 0 (t 3 w) + pick near 0 1))
+      of-here : u 3 ≡ upd (t 3) w (pick began 0 (t 3 w) + pick near 0 1)
+      of-spins : u 4 ≡ t 4
+      of-idle : u 5 ≡ t 5
 
     front : (began near : Bool) → t 3 w ≤ t 2 w → Front began near (reachesIn near (beginsIn began t))
     unfolding reachesIn beginsIn put upd
-    front true true l = record { zeroth = refl; first = kept (t 1) w; second = sym (same-upd (t 2) w _ (omega arith)); third = refl; fourth = refl; fifth = refl }
-    front true false l = record { zeroth = refl; first = refl; second = ap (λ (n : ℕ). upd (t 2) w (max (t 2 w) (n + 1))) (upd-same (t 3) w 0); third = upd-upd (t 3) w 0 _ ∙ ap (λ (n : ℕ). upd (t 3) w (n + 1)) (upd-same (t 3) w 0); fourth = refl; fifth = refl }
-    front false true l = record { zeroth = refl; first = kept (t 1) w; second = sym (same-upd (t 2) w _ (omega arith)); third = kept (t 3) w; fourth = refl; fifth = refl }
-    front false false l = record { zeroth = refl; first = refl; second = refl; third = refl; fourth = refl; fifth = refl }
+    front true true l = record { of-done = refl; of-far = kept (t 1) w; of-most = sym (same-upd (t 2) w _ (omega arith)); of-here = refl; of-spins = refl; of-idle = refl }
+    front true false l = record { of-done = refl; of-far = refl; of-most = ap (λ (n : ℕ). upd (t 2) w (max (t 2 w) (n + 1))) (upd-same (t 3) w 0); of-here = upd-upd (t 3) w 0 _ ∙ ap (λ (n : ℕ). upd (t 3) w (n + 1)) (upd-same (t 3) w 0); of-spins = refl; of-idle = refl }
+    front false true l = record { of-done = refl; of-far = kept (t 1) w; of-most = sym (same-upd (t 2) w _ (omega arith)); of-here = kept (t 3) w; of-spins = refl; of-idle = refl }
+    front false false l = record { of-done = refl; of-far = refl; of-most = refl; of-here = refl; of-spins = refl; of-idle = refl }
 
+    -- and where it is counted
     record Back (spin idle done : Bool) (u : Table) : Type 0 where
-      zeroth : u 0 ≡ upd (t 0) w (t 0 w + one-if done)
-      first : u 1 ≡ t 1
-      second : u 2 ≡ t 2
-      third : u 3 ≡ t 3
-      fourth : u 4 ≡ upd (t 4) w (t 4 w + one-if spin)
-      fifth : u 5 ≡ upd (t 5) w (t 5 w + one-if idle)
+      of-done : u 0 ≡ upd (t 0) w (t 0 w + one-if done)
+      of-far : u 1 ≡ t 1
+      of-most : u 2 ≡ t 2
+      of-here : u 3 ≡ t 3
+      of-spins : u 4 ≡ upd (t 4) w (t 4 w + one-if spin)
+      of-idle : u 5 ≡ upd (t 5) w (t 5 w + one-if idle)
 
     back : (spin idle done : Bool) → (spin ≡ true → (idle ≡ false) × (done ≡ false)) → (idle ≡ true → done ≡ false) → Back spin idle done (countsIn spin idle done t)
     unfolding countsIn put upd
     back true true done f g = absurd (true≢false (f refl .0))
     back true false true f g = absurd (true≢false (f refl .1))
-    back true false false f g = record { zeroth = kept (t 0) w; first = refl; second = refl; third = refl; fourth = refl; fifth = kept (t 5) w }
+    back true false false f g = record { of-done = kept (t 0) w; of-far = refl; of-most = refl; of-here = refl; of-spins = refl; of-idle = kept (t 5) w }
     back false true true f g = absurd (true≢false (g refl))
-    back false true false f g = record { zeroth = kept (t 0) w; first = refl; second = refl; third = refl; fourth = kept (t 4) w; fifth = refl }
-    back false false true f g = record { zeroth = refl; first = refl; second = refl; third = refl; fourth = kept (t 4) w; fifth = kept (t 5) w }
-    back false false false f g = record { zeroth = kept (t 0) w; first = refl; second = refl; third = refl; fourth = kept (t 4) w; fifth = kept (t 5) w }
+    back false true false f g = record { of-done = kept (t 0) w; of-far = refl; of-most = refl; of-here = refl; of-spins = kept (t 4) w; of-idle = refl }
+    back false false true f g = record { of-done = refl; of-far = refl; of-most = refl; of-here = refl; of-spins = kept (t 4) w; of-idle = kept (t 5) w }
+    back false false false f g = record { of-done = kept (t 0) w; of-far = refl; of-most = refl; of-here = refl; of-spins = kept (t 4) w; of-idle = kept (t 5) w }
 
   -- ---- the numbers of the processor before each part, and after all
 
   module _ (made : Made) (a b : List ℕ) (room : Room w a) (eb : b ≡ begun (made .began) (w * 6) a) where
     place-b : w * 6 + 5 < length b
-    place-b = rw eb (go (made .began))
-      where
-        go : (x : Bool) → w * 6 + 5 < length (begun x (w * 6) a)
-        go true = lt-length-set a (w * 6 + 3) 0 (room .place)
-        go false = room .place
+    place-b = rw eb (either (λ (l : List ℕ). w * 6 + 5 < length l) (made .began) (set a (w * 6 + 3) 0) a (lt-length-set a (w * 6 + 3) 0 (room .place)) (room .place))
 
     table-b : table b ≡ beginsIn (made .began) (table a)
     table-b = rw eb (begun-table a (room .place) (made .began))
@@ -151,11 +144,7 @@ module _ (w : ℕ) where
 
     module _ (c : List ℕ) (ec : c ≡ pick (eqb (made .owner) w) b (farther (w * 6) b)) where
       place-c : w * 6 + 5 < length c
-      place-c = rw ec (go (eqb (made .owner) w))
-        where
-          go : (x : Bool) → w * 6 + 5 < length (pick x b (farther (w * 6) b))
-          go true = place-b
-          go false = simp length-set place-b
+      place-c = rw ec (either (λ (l : List ℕ). w * 6 + 5 < length l) (eqb (made .owner) w) b (farther (w * 6) b) place-b (simp length-set place-b))
 
       table-c : Front (table a) (made .began) (eqb (made .owner) w) (table c)
       unfolding column table
@@ -166,21 +155,21 @@ module _ (w : ℕ) where
       room-kind =
           let few : (f g : ℕ → ℕ) → f ≡ g → g w < 65535 → f w < 65535 = λ f g e l. rw e l in (
             place-c,
-            rw (add-zero (w * 6)) at (few (table c 0) (table a 0) (table-c .zeroth) (room .few 0 (omega arith))),
-            few (table c 4) (table a 4) (table-c .fourth) (room .few 4 (omega arith)),
-            few (table c 5) (table a 5) (table-c .fifth) (room .few 5 (omega arith)),
+            rw (add-zero (w * 6)) at (few (table c 0) (table a 0) (table-c .of-done) (room .few 0 (omega arith))),
+            few (table c 4) (table a 4) (table-c .of-spins) (room .few 4 (omega arith)),
+            few (table c 5) (table a 5) (table-c .of-idle) (room .few 5 (omega arith)),
           )
 
-      pub counted-all : (e : List ℕ) → e ≡ sorted (made .spin) (made .idle) (made .done) (w * 6) c → OneKind (toldOf w made) → Counted w (toldOf w made) a e
+      pub counted-all : (e : List ℕ) → e ≡ byKind (made .spin) (made .idle) (made .done) (w * 6) c → OneKind (toldOf w made) → Counted w (toldOf w made) a e
       unfolding column table counted
       counted-all e ee k =
           let te : table e ≡ countsIn (made .spin) (made .idle) (made .done) (table c) = rw ee (kind-table c place-c (made .spin) (made .idle) (made .done)) in
           let z = back (table c) (made .spin) (made .idle) (made .done) (k .of-spin) (k .of-idle) in
           let plus : ℕ → (ℕ → ℕ) → ℕ → ℕ = λ n f. upd f w (f w + n) in
           record {
-            done = ap (λ (t : Table). t 0) te ∙ z .zeroth ∙ ap (plus (one-if (made .done))) (table-c .zeroth);
+            done = ap (λ (t : Table). t 0) te ∙ z .of-done ∙ ap (plus (one-if (made .done))) (table-c .of-done);
             tally = λ total.
-                same-tally _ _ (ap (λ (t : Table). t 1) te ∙ z .first ∙ table-c .first) (ap (λ (t : Table). t 2) te ∙ z .second ∙ table-c .second)
-                (ap (λ (t : Table). t 3) te ∙ z .third ∙ table-c .third) (ap (λ (t : Table). t 4) te ∙ z .fourth ∙ ap (plus (one-if (made .spin))) (table-c .fourth))
-                (ap (λ (t : Table). t 5) te ∙ z .fifth ∙ ap (plus (one-if (made .idle))) (table-c .fifth)) refl;
+                same-tally _ _ (ap (λ (t : Table). t 1) te ∙ z .of-far ∙ table-c .of-far) (ap (λ (t : Table). t 2) te ∙ z .of-most ∙ table-c .of-most)
+                (ap (λ (t : Table). t 3) te ∙ z .of-here ∙ table-c .of-here) (ap (λ (t : Table). t 4) te ∙ z .of-spins ∙ ap (plus (one-if (made .spin))) (table-c .of-spins))
+                (ap (λ (t : Table). t 5) te ∙ z .of-idle ∙ ap (plus (one-if (made .idle))) (table-c .of-idle)) refl;
           }

@@ -1,24 +1,22 @@
 -- Laws for a loop over the schedule, of any machine.
-use mathlib.Core.Path.{_≡_, refl, sym, ap, ap₂, _∙_}
-use mathlib.Core.Bool.{Bool, true, false}
+use mathlib.Core.Path.{_≡_, refl, sym, ap, _∙_}
 use mathlib.Core.List.{List, [], _∷_, _++_, map}
 use Prim.Native.Nat.{ℕ, zero, suc, _+_, _*_, _≤_, _<_}
 use native.Mathlib.Omega.{arith}
 use lib.ListN.{length, getD, replicate, length-replicate, length-append, length-map}
-use lib.Seq.{sets, length-sets}
-use Rattle.rules.specs.Memory.{pick, upd, each}
+use lib.Seq.{length-sets}
+use Rattle.rules.specs.Memory.{pick}
 use Rattle.rules.specs.Bounds.{mostProcs, mostTurns, mostHold, mostBudget}
 use Rattle.rules.specs.Settings.{Settings, entry}
 use Rattle.rules.specs.Step.{code, Machine}
-use Rattle.rules.specs.Course as course
-use Rattle.rules.specs.Course.{Course, Turn, holds, idles, makes, turn}
+use Rattle.rules.specs.Course.{Course, turn}
 use Rattle.rules.specs.Tally.{Tally, blank}
 use Rattle.rules.specs.Play.{Run, first, next, taking, ended, whole}
 use Rattle.rules.specs.Calls.{over}
-use Rattle.rules.proofs.Accepted.{Accepted, Below}
+use Rattle.rules.proofs.Accepted.{Below}
 use Rattle.rules.proofs.Views.{column, column-blank, over-next}
 use Rattle.rules.proofs.Counts.{Table≤}
-use Rattle.rules.proofs.Turned.{Told, told, OneKind, told-one, Turned, one-if, counted, same-tally, codes≤, done-told}
+use Rattle.rules.proofs.Turned.{Told, told, OneKind, told-one, Turned, same-tally, codes≤, done-told}
 use Rattle.rules.proofs.Going.{Going, As, going-first, going-all, going-past, going-next, as-next}
 use Rattle.machine.specs.declared.played.Played.{Played}
 use Rattle.machine.specs.View.{Starts, Turns}

@@ -38,7 +38,7 @@ pub record Counted (w : ℕ) (d : Told) (a b : List ℕ) : Type 0 where
   pub done : doneOf b ≡ upd (doneOf a) w (doneOf a w + one-if (d .done))
   pub tally : (total : ℕ) → tallyOf b (total + d .far) ≡ counted w d (tallyOf a total)
 
--- ---- the parts of it, of the numbers from a place on
+-- ---- the parts of it, on the numbers from a place on
 
 abbrev pub begun : Bool → ℕ → List ℕ → List ℕ
 begun b at row = pick b (set row (at + 3) 0) row
@@ -48,11 +48,11 @@ farther at row =
     let here : ℕ = getD row (at + 3) 0 + 1 in
     set (set (set row (at + 1) (getD row (at + 1) 0 + 1)) (at + 2) (max (getD row (at + 2) 0) here)) (at + 3) here
 
-abbrev pub more : ℕ → List ℕ → List ℕ
-more i row = set row i (getD row i 0 + 1)
+abbrev pub oneMore : ℕ → List ℕ → List ℕ
+oneMore i row = set row i (getD row i 0 + 1)
 
-abbrev pub sorted : Bool → Bool → Bool → ℕ → List ℕ → List ℕ
-sorted spin idle done at row = pick spin (more (at + 4) row) (pick idle (more (at + 5) row) (pick done (more at row) row))
+abbrev pub byKind : Bool → Bool → Bool → ℕ → List ℕ → List ℕ
+byKind spin idle done at row = pick spin (oneMore (at + 4) row) (pick idle (oneMore (at + 5) row) (pick done (oneMore at row) row))
 
 -- these numbers are written into the row from n on, and r is the place after them
 pub record Noted (before : List ℕ) (n : ℕ) (es : List ℕ) (after : List ℕ) (r : ℕ) : Type 0 where

@@ -7,7 +7,7 @@ ghost use lib.ListN.{length, getD};
 ghost use Rattle.rules.specs.Memory.{pick};
 ghost use Rattle.rules.proofs.Turned.{OneKind};
 ghost use Rattle.machine.specs.View.{toldOf};
-ghost use Rattle.machine.specs.CountView.{Counted, Noted, Room, begun, farther, sorted};
+ghost use Rattle.machine.specs.CountView.{Counted, Noted, Room, begun, farther, byKind};
 
 // 1 for a remote access of processor w, else 0.
 pub(crate) fn far_of(owner: u16, w: u16) -> u32
@@ -51,7 +51,7 @@ fn count_far(sums: &mut [u16], at: usize, owner: u16, w: u16)
 // What else the turn was, if any: a spin, an idle turn, or a passage's end.
 fn count_kind(sums: &mut [u16], at: usize, spin: bool, idle: bool, done: bool)
     requires { ⌜ (at + 5 < length (now sums)) × (getD (now sums) at 0 < 65535) × (getD (now sums) (at + 4) 0 < 65535) × (getD (now sums) (at + 5) 0 < 65535) ⌝ }
-    ensures { λ r. ⌜ now (sums .exit) ≡ sorted spin idle done at (now (sums .entry)) ⌝ }
+    ensures { λ r. ⌜ now (sums .exit) ≡ byKind spin idle done at (now (sums .entry)) ⌝ }
 {
     if spin {
         sums[at + 4] = sums[at + 4] + 1;

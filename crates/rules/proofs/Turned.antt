@@ -1,6 +1,6 @@
 -- A turn as a program makes it: the memory and the course after it, and what is told of it to those who count.
 use mathlib.Core.Path.{_≡_, refl, sym, ap, ap₂, _∙_, fun-ext}
-use mathlib.Core.Bool.{Bool, true, false, _&&_, false≢true}
+use mathlib.Core.Bool.{Bool, true, false, _&&_}
 use mathlib.Core.List.{List, [], _∷_, _++_, map}
 use Prim.Native.Nat.{ℕ, zero, suc, _+_, _-_, _≤_, _<_, max}
 use native.Mathlib.Decide.{ℕ-discrete}
@@ -14,7 +14,7 @@ use Rattle.rules.specs.Step.{Access, remote, Says, said, code, Next, sta
 use Rattle.rules.specs.Course as course
 use Rattle.rules.specs.Course.{Course, Turn, holds, idles, makes, turn, holding}
 use Rattle.rules.specs.Tally.{Tally, tally, spun}
-use Rattle.rules.proofs.Store.{upd-same, upd-other}
+use Rattle.rules.proofs.Store.{upd-same, upd-other, false-true}
 use Rattle.rules.proofs.Steps.{remote≤, said≤}
 
 -- ---- what is told of a turn: whether its access is remote (1 or 0), its events as numbers of the row, and what it counts as
@@ -60,8 +60,8 @@ told i at (makes w) = toldStep i at w
 
 pub told-one : {S : Type 0} (i at : ℕ) (w : Turn S) → OneKind (told i at w)
 told-one i at holds = record { of-spin = λ e. (refl, refl); of-idle = λ e. refl }
-told-one i at idles = record { of-spin = λ e. absurd (false≢true e); of-idle = λ e. refl }
-told-one i at (makes w) = record { of-spin = λ e. (refl, go (w .then) e); of-idle = λ e. absurd (false≢true e) }
+told-one i at idles = record { of-spin = λ e. absurd (false-true e); of-idle = λ e. refl }
+told-one i at (makes w) = record { of-spin = λ e. (refl, go (w .then) e); of-idle = λ e. absurd (false-true e) }
   where
     go : (x : Next) → stays x ≡ true → ends x ≡ false
     go stay e = refl
@@ -158,7 +158,7 @@ counted i d t =
     }
 
 -- the same number again changes nothing
-kept : (f : ℕ → ℕ) (i : ℕ) → f ≡ upd f i (f i + 0)
+pub kept : (f : ℕ → ℕ) (i : ℕ) → f ≡ upd f i (f i + 0)
 kept f i = sym (same-upd f i (f i + 0) (omega arith))
 
 pub same-tally : (a b : Tally) → a .far ≡ b .far → a .most ≡ b .most → a .here ≡ b .here → a .spins ≡ b .spins → a .idle ≡ b .idle → a .total ≡ b .total → a ≡ b
