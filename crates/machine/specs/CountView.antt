@@ -43,13 +43,14 @@ pub record Counted (w : ℕ) (d : Told) (a b : List ℕ) : Type 0 where
 abbrev pub begun : Bool → ℕ → List ℕ → List ℕ
 begun b at row = pick b (set row (at + 3) 0) row
 
+abbrev pub oneMore : ℕ → List ℕ → List ℕ
+oneMore i row = set row i (getD row i 0 + 1)
+
+-- a remote reference: one more of them, one more in this passage, and so for the most
 abbrev pub farther : ℕ → List ℕ → List ℕ
 farther at row =
     let here : ℕ = getD row (at + 3) 0 + 1 in
-    set (set (set row (at + 1) (getD row (at + 1) 0 + 1)) (at + 2) (max (getD row (at + 2) 0) here)) (at + 3) here
-
-abbrev pub oneMore : ℕ → List ℕ → List ℕ
-oneMore i row = set row i (getD row i 0 + 1)
+    set (set (oneMore (at + 1) row) (at + 2) (max (getD row (at + 2) 0) here)) (at + 3) here
 
 abbrev pub byKind : Bool → Bool → Bool → ℕ → List ℕ → List ℕ
 byKind spin idle done at row = pick spin (oneMore (at + 4) row) (pick idle (oneMore (at + 5) row) (pick done (oneMore at row) row))

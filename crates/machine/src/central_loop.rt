@@ -1,4 +1,4 @@
-// The run of the central machine over a schedule.
+// The run of the central barrier over a schedule.
 use crate::central::Central;
 use crate::counts::far_of;
 use crate::counts::tell;

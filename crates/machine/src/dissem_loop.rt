@@ -1,4 +1,4 @@
-// The run of the dissem machine over a schedule.
+// The run of the dissemination barrier over a schedule.
 use crate::counts::far_of;
 use crate::counts::tell;
 use crate::dissem::Dissem;

@@ -1,4 +1,4 @@
-// The run of the mcs machine over a schedule.
+// The run of the MCS lock over a schedule.
 use crate::counts::far_of;
 use crate::counts::tell;
 use crate::mcs::Mcs;

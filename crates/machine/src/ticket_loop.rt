@@ -1,4 +1,4 @@
-// The run of the ticket machine over a schedule.
+// The run of the ticket lock over a schedule.
 use crate::counts::far_of;
 use crate::counts::tell;
 use crate::played::End;
