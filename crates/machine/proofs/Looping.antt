@@ -1,8 +1,10 @@
 -- Laws for a loop over the schedule, of any machine.
 use mathlib.Core.Path.{_≡_, refl, sym, ap, _∙_}
 use mathlib.Core.List.{List, [], _∷_, _++_, map}
-use Prim.Native.Nat.{ℕ, zero, suc, _+_, _*_, _≤_, _<_}
+use Prim.Native.Nat.{ℕ, zero, suc, _+_, _-_, _*_, _≤_, _<_}
 use native.Mathlib.Omega.{arith}
+use mir.Syntax.{w8, w32, w64}
+use mir.Val.{Fits}
 use lib.ListN.{length, getD, replicate, length-replicate, length-append, length-map}
 use lib.Seq.{length-sets}
 use Rattle.rules.specs.Memory.{pick}
@@ -16,7 +18,7 @@ use Rattle.rules.specs.Calls.{over}
 use Rattle.rules.proofs.Accepted.{Below}
 use Rattle.rules.proofs.Views.{column, column-blank, over-next}
 use Rattle.rules.proofs.Counts.{Table≤}
-use Rattle.rules.proofs.Turned.{Told, told, OneKind, told-one, Turned, same-tally, codes≤, done-told}
+use Rattle.rules.proofs.Turned.{Told, told, OneKind, told-one, Turned, same-tally, far≤, codes≤, done-told}
 use Rattle.rules.proofs.Going.{Going, As, going-first, going-all, going-past, going-next, as-next}
 use Rattle.machine.specs.declared.played.Played.{Played}
 use Rattle.machine.specs.View.{Starts, Turns}
@@ -80,16 +82,19 @@ module _ {m : Machine} {s : Settings} {turns events₀ events : List ℕ} {x : m
   abbrev pub who : ℕ
   who = getD turns k 0
 
-  -- how large the numbers are before a turn
+  -- how large the numbers are before a turn, as the loop asks it
   pub record Known : Type 0 where
     pub more : k < length turns
-    pub taken : k < mostTurns
+    pub one-more : Fits w64 (k + 1)
+    pub less : length turns - (k + 1) < length turns - k
     pub below : who < s .procs
     pub procs : s .procs ≤ mostProcs
-    pub hold : entry (s .hold) who ≤ mostHold
-    pub done : c .done who ≤ k
-    pub paid : total ≤ s .budget
-    pub budget : s .budget ≤ mostBudget
+    pub low : who < mostProcs
+    pub index : Fits w64 who
+    pub place : Fits w64 (who * 2)
+    pub hold : Fits w8 (entry (s .hold) who)
+    pub done : c .done who < 65535
+    pub paid : total ≤ mostBudget
     pub room : n + 2 ≤ length events
 
   events-are : length (h .es) ≡ length (h .r .events)
@@ -111,6 +116,7 @@ module _ {m : Machine} {s : Settings} {turns events₀ events : List ℕ} {x : m
   -- the turn is made: `tell` may be called, and the run ends before it or goes on after it
   module _ {P : Settings → Type 0} {x′ : m .State} {c′ : Course} {d : Told} (t : Turns m P who (entry (s .rounds) who) (entry (s .hold) who) x c x′ c′ d) where
     pub record Made (far : ℕ) : Type 0 where
+      pub fits : Fits w32 (total + far)
       pub tell : (who < mostProcs) × Room who a × OneKind d × (n + 2 ≤ length events)
       pub past : s .budget < total + far → PlayedIs m s turns events₀ events (record { stop = 1; taken = k; events = n; total = total; sums = a })
       pub on : total + far ≤ s .budget → {b events′ : List ℕ} {n′ : ℕ} → Counted who d a b × Noted events n (d .codes) events′ n′ → length b ≡ length a
@@ -124,15 +130,21 @@ module _ {m : Machine} {s : Settings} {turns events₀ events : List ℕ} {x : m
         let ok = h .ready .accepted in
         let more : k < length turns = omega (arith, h .going .within, left) in
         let below : who < s .procs = turn-below (s .procs) turns k (ok .turns-below) more in
+        let hold : entry (s .hold) who ≤ mostHold = ok .hold .fits who below in
+        let done : c .done who ≤ k = rw (h .has .course) at (h .going .small .done who) in
+        let paid : total ≤ s .budget = rw (h .has .tally) at (h .going .paid) in
         record {
           more = more;
-          taken = omega (arith, ok .few);
+          one-more = omega (arith, ok .few);
+          less = omega (arith, more);
           below = below;
           procs = ok .procs-high;
-          hold = ok .hold .fits who below;
-          done = rw (h .has .course) at (h .going .small .done who);
-          paid = rw (h .has .tally) at (h .going .paid);
-          budget = ok .budget;
+          low = omega (arith, ok .procs-high);
+          index = omega (arith, ok .procs-high);
+          place = omega (arith, ok .procs-high);
+          hold = omega (arith, hold);
+          done = omega (arith, done, ok .few);
+          paid = omega (arith, paid, ok .budget);
           room = omega (arith, h .count, events-are, h .going .few, h .ready .wide, h .long);
         }
 
@@ -140,7 +152,7 @@ module _ {m : Machine} {s : Settings} {turns events₀ events : List ℕ} {x : m
     room-of : Room who a
     unfolding column
     room-of =
-        let b : who < mostProcs = omega (arith, held-known) in
+        let b = held-known .low in
         record { place = omega (arith, h .sums); few = few; low = low who }
       where
         low : (w : ℕ) → tallyOf a total .here w ≤ tallyOf a total .most w
@@ -149,13 +161,16 @@ module _ {m : Machine} {s : Settings} {turns events₀ events : List ℕ} {x : m
         t : Table≤ k c (tallyOf a total)
         t = rw (h .has .course, h .has .tally) at (h .going .small)
 
+        taken : k < mostTurns
+        taken = omega (arith, h .ready .accepted .few, held-known .more)
+
         few : (j : ℕ) → j < numbers → getD a (who * numbers + j) 0 < 65535
-        few zero u = let z = t .done who in omega (arith, held-known, rw (h .done) at z)
-        few (suc zero) u = omega (arith, held-known, t .far who)
-        few (suc (suc zero)) u = omega (arith, held-known, t .most who)
-        few (suc (suc (suc zero))) u = omega (arith, held-known, t .here who)
-        few (suc (suc (suc (suc zero)))) u = omega (arith, held-known, t .spins who)
-        few (suc (suc (suc (suc (suc zero))))) u = omega (arith, held-known, t .idle who)
+        few zero u = let z = t .done who in omega (arith, taken, rw (h .done) at z)
+        few (suc zero) u = omega (arith, taken, t .far who)
+        few (suc (suc zero)) u = omega (arith, taken, t .most who)
+        few (suc (suc (suc zero))) u = omega (arith, taken, t .here who)
+        few (suc (suc (suc (suc zero)))) u = omega (arith, taken, t .spins who)
+        few (suc (suc (suc (suc (suc zero))))) u = omega (arith, taken, t .idle who)
         few (suc (suc (suc (suc (suc (suc j)))))) u = absurd (omega arith)
 
     -- ---- the turn is made
@@ -192,9 +207,13 @@ module _ {m : Machine} {s : Settings} {turns events₀ events : List ℕ} {x : m
               sums = o ∙ h .sums;
             }
 
+        far≤1 : far ≤ 1
+        far≤1 = rw (f, tells) (far≤ who (h .r .course .at who) (next m s (h .r) who))
+
         pub held-made : Made t far
         held-made = record {
-          tell = (omega (arith, held-known), room-of, rw tells (told-one who (h .r .course .at who) (next m s (h .r) who)), held-known .room);
+          fits = omega (arith, held-known .paid, far≤1);
+          tell = (held-known .low, room-of, rw tells (told-one who (h .r .course .at who) (next m s (h .r) who)), held-known .room);
           past = past;
           on = on;
         }

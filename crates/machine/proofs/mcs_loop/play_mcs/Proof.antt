@@ -49,7 +49,7 @@ turn-requires : tie.Need-turn-requires Inv-loop μ-loop
 unfolding view
 turn-requires c κs =
     let e : Left = search needs in
-    (omega (arith, known e), omega (arith, known e), e .before .loop .inv .1)
+    (known e .low, known e .done, e .before .loop .inv .1)
 
 loop-again : tie.Need-loop-again Inv-loop μ-loop
 loop-again c =
@@ -65,19 +65,19 @@ play-mcs-spec =
     μ-loop
     (λ c κs. search needs) loop-holds
     (λ c. search needs) (λ c. search needs)
-    (λ c. omega (arith, known (search needs)))
-    (λ c. omega (arith, known (search needs)))
-    (λ c. omega (arith, known (search needs)))
-    (λ c. omega (arith, known (search needs)))
-    (λ c. omega (arith, known (search needs)))
-    (λ c. omega (arith, known (search needs)))
+    (λ c. known (search needs) .index)
+    (λ c. known (search needs) .place)
+    (λ c. known (search needs) .low)
+    (λ c. known (search needs) .place)
+    (λ c. known (search needs) .low)
+    (λ c. known (search needs) .hold)
     turn-requires
     (λ c κs. search needs)
-    (λ c. omega (arith, known (search needs), c .far-of .ensures .1))
+    (λ c. made c .fits)
     (λ c. let h : tie.At-loop Inv-loop μ-loop = search needs in search (h .loop .inv .0 .sums, needs))
     (λ c κs. made (search needs) .tell)
-    (λ c. omega (arith, known (search needs)))
-    (λ c. omega (arith, known (search needs)))
+    (λ c. known (search needs) .one-more)
+    (λ c. known (search needs) .less)
     loop-again
     (λ c. search needs)
     (λ c. let h : tie.At-loop Inv-loop μ-loop = search needs in held-all (h .loop .inv .0) (c .if1 .taken))
