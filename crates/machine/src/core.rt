@@ -1,9 +1,9 @@
 // A run over plain numbers: refusals, the machine that the settings name, its numbers. The table is filled afterwards.
-use crate::loops::play_central;
-use crate::loops::play_dissem;
-use crate::loops::play_mcs;
-use crate::loops::play_ticket;
+use crate::central_loop::play_central;
+use crate::dissem_loop::play_dissem;
+use crate::mcs_loop::play_mcs;
 use crate::played::Played;
+use crate::ticket_loop::play_ticket;
 use settings::Settings;
 use settings::refused_by;
 ghost use mathlib.Core.Path.{_≡_};

@@ -14,7 +14,7 @@ use Rattle.rules.specs.Step.{Access, remote, Says, said, code, Next, sta
 use Rattle.rules.specs.Course as course
 use Rattle.rules.specs.Course.{Course, Turn, holds, idles, makes, turn, holding}
 use Rattle.rules.specs.Tally.{Tally, tally, spun}
-use Rattle.rules.proofs.Store.{upd-same, upd-other}
+use Rattle.rules.proofs.Store.{upd-same, upd-other, false-true}
 use Rattle.rules.proofs.Steps.{remote≤, said≤}
 
 -- ---- what is told of a turn: whether its access is remote (1 or 0), its events as numbers of the row, and what it counts as
@@ -26,6 +26,11 @@ pub record Told : Type 0 where
   pub done : Bool
   pub spin : Bool
   pub idle : Bool
+
+-- it counts as one thing: a spin is not idle and ends no passage, and an idle turn ends none
+pub record OneKind (d : Told) : Type 0 where
+  pub of-spin : d .spin ≡ true → (d .idle ≡ false) × (d .done ≡ false)
+  pub of-idle : d .idle ≡ true → d .done ≡ false
 
 abbrev pub stays : Next → Bool
 stays stay = true
@@ -52,6 +57,16 @@ abbrev pub told : {S : Type 0} → ℕ → ℕ → Turn S → Told
 told i at holds = record { far = 0; codes = []; began = false; done = false; spin = false; idle = false }
 told i at idles = record { far = 0; codes = []; began = false; done = false; spin = false; idle = true }
 told i at (makes w) = toldStep i at w
+
+pub told-one : {S : Type 0} (i at : ℕ) (w : Turn S) → OneKind (told i at w)
+told-one i at holds = record { of-spin = λ e. (refl, refl); of-idle = λ e. refl }
+told-one i at idles = record { of-spin = λ e. absurd (false-true e); of-idle = λ e. refl }
+told-one i at (makes w) = record { of-spin = λ e. (refl, go (w .then) e); of-idle = λ e. absurd (false-true e) }
+  where
+    go : (x : Next) → stays x ≡ true → ends x ≡ false
+    go stay e = refl
+    go (to k) e = refl
+    go over e = sym e
 
 -- processor i's turn in state x, on course c, leads to x′ and c′, and d is told of it
 pub record Turned (m : Machine) (s : Settings) (x : m .State) (c : Course) (i : ℕ) (x′ : m .State) (c′ : Course) (d : Told) : Type 0 where
@@ -143,7 +158,7 @@ counted i d t =
     }
 
 -- the same number again changes nothing
-kept : (f : ℕ → ℕ) (i : ℕ) → f ≡ upd f i (f i + 0)
+pub kept : (f : ℕ → ℕ) (i : ℕ) → f ≡ upd f i (f i + 0)
 kept f i = sym (same-upd f i (f i + 0) (omega arith))
 
 pub same-tally : (a b : Tally) → a .far ≡ b .far → a .most ≡ b .most → a .here ≡ b .here → a .spins ≡ b .spins → a .idle ≡ b .idle → a .total ≡ b .total → a ≡ b
