@@ -5,17 +5,15 @@ use Prim.Native.Nat.{_-_}
 use native.Mathlib.Omega.{arith}
 use lib.ListN.{length}
 use Rattle.rules.specs.Dissem.{machine, doublings}
-use Rattle.rules.proofs.Views.{view}
 use Rattle.settings.specs.View.{settingsOf}
-use Rattle.turns.specs.View.{courseOf}
-use Rattle.turns.specs.DissemView.{flagsOf, Sound}
+use Rattle.turns.specs.DissemView.{stateOf, courseIn, Sound}
 use Rattle.machine.proofs.Looping.{Held, Known, held-first, held-known, held-all, Made, held-made}
 use Rattle.machine.proofs.dissem_loop.play_dissem.Statement.{statement}
 use Rattle.machine.proofs.dissem_loop.play_dissem.Tie as tie
 
 abbrev Inv-loop : tie.InvT-loop
 Inv-loop s schedule events₀ rounds hold levels machine₀ sums₀ total₀ n₀ k₀ events m sums total n k =
-    Held machine (settingsOf s) schedule events₀ events (flagsOf (m .flags)) (courseOf (m .course)) sums total n k × Sound levels (flagsOf (m .flags)) (courseOf (m .course)) × (levels ≡ doublings (s .procs))
+    Held machine (settingsOf s) schedule events₀ events (stateOf m) (courseIn m) sums total n k × Sound levels (stateOf m) (courseIn m) × (levels ≡ doublings (s .procs))
 
 abbrev μ-loop : tie.MeasureT-loop
 μ-loop s schedule events₀ rounds hold levels machine₀ sums₀ total₀ n₀ k₀ events m sums total n k = length schedule - k
@@ -52,7 +50,6 @@ loop-holds c =
     (held-first (z .pre) (c .start .ensures .0) tt, c .start .ensures .1 _, l .levels .ensures)
 
 turn-requires : tie.Need-turn-requires Inv-loop μ-loop
-unfolding view
 turn-requires c κs =
     let e : Left = search needs in
     (known e .below, known e .procs, e .before .loop .inv .2, known e .done, e .before .loop .inv .1)
