@@ -1,5 +1,5 @@
-// Plays the cases of standard input over `run` and prints what each gave; tools/cases makes the input and what has to come out.
-// Numbers: how many cases; for each the room for events, the records of the table, the settings, the number of turns, and a row that is
+// Plays the cases of standard input over `tallies` and prints what each gave; tools/cases makes the input and what has to come out.
+// Numbers: how many cases; for each the room for events, the records that are lent, the settings, the number of turns, and a row that is
 // said over and over until there are that many. `touched` and `not bare` are printed where a run broke what document 01 says of lent
 // memory and refusals.
 mod input;
@@ -8,10 +8,9 @@ mod trial;
 
 use libc::STDOUT_FILENO;
 use machine::Answer;
+use machine::Tallied;
 use std::num::wrapping_add_usize;
 use trial::MARK;
-use trial::RECORDS;
-use trial::Trial;
 ghost use Prim.Native.Nat.{_≤_};
 
 const MOST_BYTES: usize = 300000;
@@ -44,7 +43,7 @@ fn is_bare(a: Answer) -> bool {
 }
 
 // The records and events that had to be written are printed; the rest had to stay.
-fn show(t: Trial, procs: usize, events: &[u16]) {
+fn show(t: Tallied, procs: usize, events: &[u16]) {
     let answer = t.answer;
     let table = t.table;
     let written = at_most(answer.events, events.len());
@@ -65,7 +64,7 @@ fn show(t: Trial, procs: usize, events: &[u16]) {
 
 // Plays the case whose records and settings are at a place, in rows that are lent for it.
 fn play_in(text: &[u8], place: usize, turns_at: usize, schedule: &mut [u16], events: &mut [u16]) {
-    let records = at_most(input::size(text, place), RECORDS);
+    let records = input::size(text, place);
     let s = input::settings_at(text, wrapping_add_usize(place, 1));
     input::set_turns(text, turns_at, schedule);
     let t = trial::run_over(s, schedule, events, records);

@@ -1,19 +1,11 @@
-// A run over a part of a table of its own, whose records hold a mark that no run leaves.
-use machine::Answer;
+// A run over a part of a table whose records hold a mark that no run leaves.
 use machine::Record;
+use machine::Tallied;
 use settings::Settings;
-ghost use Prim.Native.Nat.{_≤_};
 
-// One more than any run writes.
-pub const RECORDS: usize = 65;
+pub const RECORDS: usize = 64;
 
 pub const MARK: u16 = 9999;
-
-// table: whole, also what was not lent.
-pub struct Trial {
-    pub answer: Answer,
-    pub table: [Record; RECORDS],
-}
 
 fn marked() -> [Record; RECORDS] {
     let marked = Record {
@@ -45,15 +37,8 @@ pub fn is_marked_from(table: [Record; RECORDS], from: usize) -> bool {
     true
 }
 
-fn join_up(answer: Answer, table: [Record; RECORDS]) -> Trial {
-    Trial { answer, table }
-}
-
-// room: how many records are lent.
-pub fn run_over(s: Settings, schedule: &[u16], events: &mut [u16], room: usize) -> Trial
-    requires { ⌜ room ≤ 65 ⌝ }
-{
-    let mut table = marked();
-    let answer = machine::run(s, schedule, events, &mut table[..room]);
-    join_up(answer, table)
+// room: how many records are lent. The table comes back whole, also what was not lent.
+pub fn run_over(s: Settings, schedule: &[u16], events: &mut [u16], room: usize) -> Tallied {
+    let table = marked();
+    machine::tallies(s, schedule, events, table, room)
 }

@@ -1,14 +1,15 @@
--- What `run` is to give, for every input: one equation with the rules' definition of the call.
-use Prim.Native.Nat.{ℕ, zero, suc, _+_, _*_, _≤_}
+-- What `run` and `tallies` are to give, for every input: one equation with the rules' definition of the call.
+use Prim.Native.Nat.{ℕ, zero, suc, _+_, _*_, _≤_, min}
 use mathlib.Core.Path.{_≡_}
 use mathlib.Core.List.{List, [], _∷_, map}
-use lib.ListN.{length, getD, set, replicate}
+use lib.ListN.{length, getD, set, take, drop}
 use Rattle.rules.specs.Settings.{Settings}
 use Rattle.rules.specs.Calls as rules
 use Rattle.rules.specs.Calls.{over, running}
 use Rattle.machine.specs.declared.core.Outcome.{Outcome}
 use Rattle.machine.specs.declared.table.Record.{Record}
 use Rattle.machine.specs.declared.table.Answer.{Answer}
+use Rattle.machine.specs.declared.running.Tallied.{Tallied}
 use Rattle.machine.specs.CountView.{numbers}
 
 -- ---- what the core decides
@@ -57,10 +58,6 @@ recordFrom o i = record {
 abbrev pub answerFrom : Outcome → Answer
 answerFrom o = record { number = o .number; turns = o .turns; stop = o .stop; events = o .events; total = o .total }
 
--- the record of a processor that did nothing
-abbrev pub noRecord : Record
-noRecord = record { done = 0; remote = 0; most = 0; spins = 0; idle = 0 }
-
 -- the first n entries are the records of o, and the rest is as it was
 unfoldable pub filled : Outcome → ℕ → List Record → List Record
 filled o zero table = table
@@ -74,3 +71,8 @@ answerOf a = record { number = a .number; turns = a .turns; stop = a .stop; even
 -- the answer, the events row and the table, whole, are those of the rules
 pub record Ran (s : Settings) (turns events events′ : List ℕ) (table table′ : List Record) (a : Answer) : Type 0 where
   pub is : running s turns events (map recordOf table) ≡ record { answer = answerOf a; events = events′; table = map recordOf table′ }
+
+-- of a table that is handed over, the first records are lent, as many as the room says and at most 64, and what lies past them is as it was
+pub record Tallies (s : Settings) (turns events events′ : List ℕ) (table : List Record) (room : ℕ) (r : Tallied) : Type 0 where
+  pub lent : Ran s turns events events′ (take (min room 64) table) (take (min room 64) (r .table)) (r .answer)
+  pub past : drop (min room 64) (r .table) ≡ drop (min room 64) table

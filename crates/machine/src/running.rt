@@ -6,11 +6,11 @@ use crate::table::answer_of;
 use crate::table::fill;
 use settings::Settings;
 ghost use mathlib.Core.Path.{_≡_};
-ghost use lib.ListN.{replicate};
+ghost use Prim.Native.Nat.{min};
 ghost use Rattle.settings.specs.View.{settingsOf};
-ghost use Rattle.machine.specs.RunView.{Ran, noRecord};
+ghost use Rattle.machine.specs.RunView.{Ran, Tallies};
 
-// What a run gives where the caller lends no table: the answer, and a table of 64 records.
+// What a run over a table that was handed over gives: the answer, and the table.
 pub struct Tallied {
     pub answer: Answer,
     pub table: [Record; 64],
@@ -25,17 +25,10 @@ pub fn run(s: Settings, schedule: &[u16], events: &mut [u16], table: &mut [Recor
     answer_of(o)
 }
 
-fn no_records() -> [Record; 64]
-    ensures { λ r. ⌜ r ≡ replicate 64 noRecord ⌝ }
+fn at_most(n: usize, most: usize) -> usize
+    ensures { λ r. ⌜ r ≡ min n most ⌝ }
 {
-    let none = Record {
-        done: 0,
-        remote: 0,
-        most: 0,
-        spins: 0,
-        idle: 0,
-    };
-    [none; 64]
+    if n > most { most } else { n }
 }
 
 fn join_up(answer: Answer, table: [Record; 64]) -> Tallied
@@ -47,11 +40,17 @@ fn join_up(answer: Answer, table: [Record; 64]) -> Tallied
     }
 }
 
-// The same run over a table of its own, which is handed back.
-pub fn tallies(s: Settings, schedule: &[u16], events: &mut [u16]) -> Tallied
-    ensures { λ r. ⌜ Ran (settingsOf s) (now (schedule .entry)) (now (events .entry)) (now (events .exit)) (replicate 64 noRecord) (r .table) (r .answer) ⌝ }
+// The same run over the first records of a table that is handed over and handed back. room: how many are lent, 64 at most.
+pub fn tallies(
+    s: Settings,
+    schedule: &[u16],
+    events: &mut [u16],
+    mut table: [Record; 64],
+    room: usize,
+) -> Tallied
+    ensures { λ r. ⌜ Tallies (settingsOf s) (now (schedule .entry)) (now (events .entry)) (now (events .exit)) table room r ⌝ }
 {
-    let mut table = no_records();
-    let answer = run(s, schedule, events, &mut table);
+    let n = at_most(room, 64);
+    let answer = run(s, schedule, events, &mut table[..n]);
     join_up(answer, table)
 }
