@@ -1,0 +1,7 @@
+mod Stepping
+mod Numerals
+mod Spelling
+mod Lining
+mod Passing
+mod Opening
+mod Answering

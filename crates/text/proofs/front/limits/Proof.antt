@@ -1,0 +1,16 @@
+-- `text::front::limits` meets its contract.
+use borrow.Author.Needs.{needs}
+use Rattle.text.proofs.Opening.{field-fits, ticket-bad, budget-bad, limits-ok}
+use Rattle.text.proofs.front.limits.Statement.{statement}
+use Rattle.text.proofs.front.limits.Tie as tie
+
+pub limits-spec : {M : Type 1} → statement M
+limits-spec =
+    tie.close
+    (tie.spec (λ c. search needs) (λ c. search needs) (λ c κs. search needs) (λ c. search needs) (λ c. search needs) (λ c. search needs) (λ c. search needs)
+    (λ c κs. search needs) (λ c. search needs) (λ c. search needs)
+    (λ c. search (field-fits, needs))
+    (λ c. search (field-fits, needs))
+    (λ c. (search ticket-bad, tt))
+    (λ c. (search budget-bad, tt))
+    (λ c. (search limits-ok, search needs)))

@@ -1,0 +1,15 @@
+-- `text::reading::read` meets its contract.
+use borrow.Author.Needs.{needs}
+use Rattle.text.proofs.Opening.{front-small}
+use Rattle.text.proofs.Answering.{read-refused, read-on}
+use Rattle.text.proofs.reading.read.Statement.{statement}
+use Rattle.text.proofs.reading.read.Tie as tie
+
+pub read-spec : {M : Type 1} → statement M
+read-spec =
+    tie.close
+    (tie.spec (λ c κs. search needs) (λ c. search needs) (λ c κs. search needs) (λ c. search needs)
+    (λ c κs. front-small _ (c .before .before .before .before .front .ensures .1) _ _ (c .before .before .got2 .given .1))
+    (λ c. search read-refused)
+    (λ c. search needs)
+    (λ c. search read-on))
