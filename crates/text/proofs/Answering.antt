@@ -14,6 +14,7 @@ use Rattle.rules.specs.File.{Front, rows, turns, front, settings, rest, whole, 
 use Rattle.rules.specs.Calls as rules
 use Rattle.rules.specs.Calls.{readingOf}
 use Rattle.settings.specs.View.{settingsOf}
+use Rattle.settings.specs.declared.Settings as code
 use Rattle.text.specs.declared.place.Step.{Step}
 use Rattle.text.specs.declared.place.Step.the-variants.{At, No}
 use Rattle.text.specs.declared.place.Value.{Value}
@@ -23,7 +24,7 @@ use Rattle.text.specs.declared.front.Head.{Head}
 use Rattle.text.specs.declared.front.Opened.{Opened}
 use Rattle.text.specs.declared.front.Opened.the-variants.{Good, Faulty}
 use Rattle.text.specs.declared.reading.ReadAnswer.{ReadAnswer}
-use Rattle.text.specs.Places.{stepOf, valueOf, rowsOf, headOf, frontOf, counted, fitsIn, filled}
+use Rattle.text.specs.Places.{stepOf, valueOf, rowsOf, headOf, frontOf, counted, fitsIn, filled, ending}
 use Rattle.text.specs.ReadView.{answerOf, refused, GotIs, ReadIs}
 use Rattle.text.proofs.Stepping.{drop-next}
 
@@ -50,7 +51,7 @@ fill-ready procs s q d c ce m p k l = go (counted-ok (turns procs (drop q s) q) 
     go : Counted (turns procs (drop q s) q) m (drop p s) p → fitsIn (turns procs (drop q s) q) (length d)
     go C = rw (C .is) (rw (C .long) l)
 
--- ---- after the first five lines
+-- ---- the turns and the end
 
 -- the answer and the schedule as the rules have them
 abbrev outcome : rules.ReadAnswer → List ℕ → rules.Reading
@@ -60,12 +61,50 @@ refuses : (g : Got (Settings × List ℕ)) (d : List ℕ) (a : ReadAnswer) (n p 
 unfolding readingOf
 refuses g d a n p e f = record { is = rw e (ap (λ (x : rules.ReadAnswer). outcome x d) (sym f)) }
 
+module _ (c : code.Settings) (s : List ℕ) (q : ℕ) (d : List ℕ) where
+  abbrev T : Got (List ℕ)
+  T = turns (c .procs) (drop q s) q
+
+  abbrev E : Got (Settings × List ℕ)
+  E = ending (settingsOf c) (drop q s) q
+
+  turned : (ts : Got (List ℕ)) → T ≡ ts → E ≡ after (after ts (λ us. give (settingsOf c, us))) (λ v s′ at′. after (end s′ at′) (λ u. give v))
+  unfolding ending whole
+  turned ts w = rw w
+
+  module _ (r : Value) (re : valueOf s r ≡ counted T) where
+    pub turns-bad : (a : ReadAnswer) (n p : ℕ) → r ≡ Not n p → answerOf a ≡ refused n p → GotIs E d d a
+    turns-bad a n p k = refuses E d a n p (turned (fault n p) (counted-fault T n p (sym (ap (valueOf s) k) ∙ re)))
+
+    module _ (m p : ℕ) (k : r ≡ Is m p) where
+      C : Counted T m (drop p s) p
+      C = counted-ok T m (drop p s) p (sym (ap (valueOf s) k) ∙ re)
+
+      pub more-after : (a : ReadAnswer) → p < length s → answerOf a ≡ refused 1 p → GotIs E d d a
+      more-after a o = refuses E d a 1 p (turned (ok (C .ts) (drop p s) p) (C .is) ∙ rw (drop-next s p o))
+
+      module _ (o : length s ≤ p) where
+        all : E ≡ ok (settingsOf c, C .ts) [] p
+        all = turned (ok (C .ts) (drop p s) p) (C .is) ∙ rw (drop-of-length-le s o)
+
+        pub no-room : (a : ReadAnswer) → length d < m → answerOf a ≡ refused 6 0 → GotIs E d d a
+        unfolding readingOf
+        no-room a t z =
+            let b : leb (length (C .ts)) (length d) ≡ false = lt-leb (length (C .ts)) (length d) (rw (C .long) t) in
+            record { is = rw (all, b) (ap (λ (x : rules.ReadAnswer). outcome x d) (sym z)) }
+
+        pub accepted : (d′ : List ℕ) → m ≤ length d → d′ ≡ filled T d → GotIs E d d′ (record { number = 0; place = 0; settings = c; count = m })
+        unfolding readingOf
+        accepted d′ t z =
+            let b : leb (length (C .ts)) (length d) ≡ true = le-leb (length (C .ts)) (length d) (rw (C .long) t) in
+            let w : d′ ≡ filled (ok (C .ts) (drop p s) p) d = z ∙ ap (λ (x : Got (List ℕ)). filled x d) (C .is) in
+            record { is = rw (all, b) (λ i. outcome (record { number = 0; place = 0; settings = settingsOf c; count = C .long i }) (sym w i)) }
+
+-- ---- after the first five lines
+
 module _ (h : Head) (s : List ℕ) (at : ℕ) (d : List ℕ) (r : Rows) (e : rowsOf s r ≡ rows (h .procs) 0 zeros zeros (drop at s) at) where
   abbrev G : Got (Settings × List ℕ)
   G = whole (rest (headOf h)) (drop at s) at
-
-  abbrev made : Settings
-  made = settings (headOf h) (r .rounds) (r .hold)
 
   pub rows-bad : (a : ReadAnswer) (n p : ℕ) → r .step ≡ No n p → answerOf a ≡ refused n p → GotIs G d d a
   unfolding rest whole
@@ -76,40 +115,9 @@ module _ (h : Head) (s : List ℕ) (at : ℕ) (d : List ℕ) (r : Rows) (e : row
     unfolding rest whole
     turns-label-bad a n q f k = refuses G d a n q (rw (← e, g, ← le, f)) k
 
-    module _ (q : ℕ) (f : l ≡ At q) where
-      turned : (ts : Got (List ℕ)) → turns (h .procs) (drop q s) q ≡ ts → G ≡ after (after ts (λ us. give (made, us))) (λ v s′ at′. after (end s′ at′) (λ u. give v))
-      unfolding rest whole
-      turned ts w = rw (← e, g, ← le, f, w)
-
-      module _ (c : Value) (ce : valueOf s c ≡ counted (turns (h .procs) (drop q s) q)) where
-        pub turns-bad : (a : ReadAnswer) (n p′ : ℕ) → c ≡ Not n p′ → answerOf a ≡ refused n p′ → GotIs G d d a
-        turns-bad a n p′ k = refuses G d a n p′ (turned (fault n p′) (counted-fault (turns (h .procs) (drop q s) q) n p′ (sym (ap (valueOf s) k) ∙ ce)))
-
-        module _ (m p′ : ℕ) (k : c ≡ Is m p′) where
-          C : Counted (turns (h .procs) (drop q s) q) m (drop p′ s) p′
-          C = counted-ok (turns (h .procs) (drop q s) q) m (drop p′ s) p′ (sym (ap (valueOf s) k) ∙ ce)
-
-          pub more-after : (a : ReadAnswer) → p′ < length s → answerOf a ≡ refused 1 p′ → GotIs G d d a
-          more-after a o = refuses G d a 1 p′ (turned (ok (C .ts) (drop p′ s) p′) (C .is) ∙ rw (drop-next s p′ o))
-
-          module _ (o : length s ≤ p′) where
-            all : G ≡ ok (made, C .ts) [] p′
-            all = turned (ok (C .ts) (drop p′ s) p′) (C .is) ∙ rw (drop-of-length-le s o)
-
-            pub no-room : (a : ReadAnswer) → length d < m → answerOf a ≡ refused 6 0 → GotIs G d d a
-            unfolding readingOf
-            no-room a t z =
-                let b : leb (length (C .ts)) (length d) ≡ false = lt-leb (length (C .ts)) (length d) (rw (C .long) t) in
-                record { is = rw (all, b) (ap (λ (x : rules.ReadAnswer). outcome x d) (sym z)) }
-
-            pub accepted : (a : ReadAnswer) (d′ : List ℕ) → m ≤ length d → d′ ≡ filled (turns (h .procs) (drop q s) q) d
-                → a ≡ record { number = 0; place = 0; settings = record { algo = h .algo; procs = h .procs; home = h .home; ticket = h .ticket; budget = h .budget; rounds = r .rounds; hold = r .hold }; count = m }
-                → GotIs G d d′ a
-            unfolding readingOf
-            accepted a d′ t z y =
-                let b : leb (length (C .ts)) (length d) ≡ true = le-leb (length (C .ts)) (length d) (rw (C .long) t) in
-                let w : d′ ≡ filled (ok (C .ts) (drop p′ s) p′) d = z ∙ ap (λ (x : Got (List ℕ)). filled x d) (C .is) in
-                rw y (record { is = rw (all, b) (λ i. outcome (record { number = 0; place = 0; settings = made; count = C .long i }) (sym w i)) })
+    pub then-turns : (q : ℕ) → l ≡ At q → (a : ReadAnswer) (d′ : List ℕ) → GotIs (ending (settings (headOf h) (r .rounds) (r .hold)) (drop q s) q) d d′ a → GotIs G d d′ a
+    unfolding rest whole ending
+    then-turns q f a d′ z = rw (← e, g, ← le, f) z
 
 -- ---- the whole
 

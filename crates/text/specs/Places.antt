@@ -2,11 +2,12 @@
 use Prim.Native.Nat.{ℕ, _-_, _≤_, _<_}
 use mathlib.Core.List.{List, _++_}
 use lib.ListN.{length, take, drop}
+use Rattle.rules.specs.Settings.{Settings}
 use Rattle.rules.specs.Bounds.{mostProcs, mostTicket, mostBudget}
 use Rattle.rules.specs.Machines.{bytes}
 use Rattle.rules.specs.Rule.{Got, ok, fault, Rule, _>>=_, give}
 use Rattle.rules.specs.Calls.{over}
-use Rattle.rules.specs.File.{Front, field}
+use Rattle.rules.specs.File.{Front, field, turns, whole}
 use Rattle.text.specs.declared.place.Step.{Step}
 use Rattle.text.specs.declared.place.Step.the-variants.{At, No}
 use Rattle.text.specs.declared.place.Numeral.{Numeral}
@@ -103,3 +104,9 @@ fitsIn (fault m p) n = ⊥
 abbrev pub filled : Got (List ℕ) → List ℕ → List ℕ
 filled (ok ts left at) schedule = over ts schedule
 filled (fault n p) schedule = schedule
+
+-- the turns of these settings, and nothing after them
+unfoldable pub ending : Settings → Rule (Settings × List ℕ)
+ending s = whole (do
+  ts ← turns (s .procs)
+  give (s, ts))

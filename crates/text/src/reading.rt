@@ -17,7 +17,8 @@ ghost use Prim.Native.Nat.{_≤_};
 ghost use lib.ListN.{drop};
 ghost use Rattle.rules.specs.Bounds.{mostProcs};
 ghost use Rattle.rules.specs.File.{rest, whole};
-ghost use Rattle.text.specs.Places.{headOf};
+ghost use Rattle.settings.specs.View.{settingsOf};
+ghost use Rattle.text.specs.Places.{headOf, ending};
 ghost use Rattle.text.specs.ReadView.{answerOf, refused, GotIs, ReadIs};
 
 // The schedule is shorter than the count of turns.
@@ -52,13 +53,39 @@ fn refuse(number: u8, place: usize) -> ReadAnswer
     }
 }
 
-// The processors' lines, the turns and nothing more, from a place on.
+// The turns and nothing more, from a place on. The schedule is written once all is accepted.
+fn closing(file: &[u8], s: Settings, at: usize, schedule: &mut [u16]) -> ReadAnswer
+    requires { ⌜ s .procs ≤ mostProcs ⌝ }
+    ensures { λ r. ⌜ GotIs (ending (settingsOf s) (drop at (now (file .entry))) at) (now (schedule .entry)) (now (schedule .exit)) r ⌝ }
+{
+    let procs = s.procs as usize;
+    let counted = count(file, procs, at);
+    match counted {
+        Value::Not(n, p) => refuse(n, p),
+        Value::Is(count, p) => {
+            if p < file.len() {
+                return refuse(MALFORMED, p);
+            }
+            if schedule.len() < count {
+                return refuse(TOO_SHORT, 0);
+            }
+            fill(file, procs, at, schedule);
+            ReadAnswer {
+                number: ACCEPTED,
+                place: 0,
+                settings: s,
+                count,
+            }
+        }
+    }
+}
+
+// The processors' lines and all that follows, from a place on.
 fn remaining(file: &[u8], h: Head, at: usize, schedule: &mut [u16]) -> ReadAnswer
     requires { ⌜ h .procs ≤ mostProcs ⌝ }
     ensures { λ r. ⌜ GotIs (whole (rest (headOf h)) (drop at (now (file .entry))) at) (now (schedule .entry)) (now (schedule .exit)) r ⌝ }
 {
-    let procs = h.procs as usize;
-    let rows = lines(file, procs, at);
+    let rows = lines(file, h.procs as usize, at);
     let rounds = rows.rounds;
     let hold = rows.hold;
     let step = rows.step;
@@ -69,24 +96,10 @@ fn remaining(file: &[u8], h: Head, at: usize, schedule: &mut [u16]) -> ReadAnswe
         Step::At(p) => p,
     };
     let labelled = label(file, b"turns=", a);
-    let b = match labelled {
-        Step::No(n, p) => {
-            return refuse(n, p);
-        }
-        Step::At(p) => p,
-    };
-    let counted = count(file, procs, b);
-    match counted {
-        Value::Not(n, p) => refuse(n, p),
-        Value::Is(count, p) => {
-            if p < file.len() {
-                return refuse(MALFORMED, p);
-            }
-            if schedule.len() < count {
-                return refuse(TOO_SHORT, 0);
-            }
-            fill(file, procs, b, schedule);
-            let settings = Settings {
+    match labelled {
+        Step::No(n, p) => refuse(n, p),
+        Step::At(p) => {
+            let s = Settings {
                 algo: h.algo,
                 procs: h.procs,
                 home: h.home,
@@ -95,12 +108,7 @@ fn remaining(file: &[u8], h: Head, at: usize, schedule: &mut [u16]) -> ReadAnswe
                 rounds,
                 hold,
             };
-            ReadAnswer {
-                number: ACCEPTED,
-                place: 0,
-                settings,
-                count,
-            }
+            closing(file, s, p, schedule)
         }
     }
 }
