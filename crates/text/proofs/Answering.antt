@@ -1,6 +1,6 @@
 -- The processors' lines, the turns and the end of the file, and the whole: one law for each way out.
 use Prim.Native.Nat.{ℕ, _≤_, _<_}
-use mathlib.Core.Path.{_≡_, refl, ap, sym, _∙_}
+use mathlib.Core.Path.{_≡_, ap, sym, _∙_}
 use mathlib.Core.List.{List, []}
 use mathlib.Core.Bool.{true, false}
 use lib.ListN.{length, drop, drop-of-length-le}
@@ -10,7 +10,7 @@ use native.Mathlib.Omega.{arith}
 use Rattle.rules.specs.Settings.{Settings, zeros}
 use Rattle.rules.specs.Machines.{bytes}
 use Rattle.rules.specs.Rule.{Got, ok, fault, after, give, lit, end}
-use Rattle.rules.specs.File.{Front, rows, turns, front, settings, rest, whole, file}
+use Rattle.rules.specs.File.{rows, turns, front, settings, rest, whole, file}
 use Rattle.rules.specs.Calls as rules
 use Rattle.rules.specs.Calls.{readingOf}
 use Rattle.settings.specs.View.{settingsOf}

@@ -1,14 +1,14 @@
 -- The processors' lines: one law for each way out.
 use Prim.Native.Nat.{ℕ, suc, _+_, _-_, _/_, _%_, _^_, _≤_, _<_}
-use mathlib.Core.Path.{_≡_, refl, ap, sym, _∙_}
-use mathlib.Core.List.{List, [], _∷_, _++_}
+use mathlib.Core.Path.{_≡_, ap, sym, _∙_}
+use mathlib.Core.List.{List, [], _∷_}
 use mathlib.Core.Bool.{false}
 use lib.ListN.{drop, set}
 use native.Mathlib.Omega.{arith}
-use Rattle.rules.specs.Rule.{Got, ok, fault, lit, isDigit}
+use Rattle.rules.specs.Bounds.{mostProcs, mostRounds, mostHold}
+use Rattle.rules.specs.Rule.{Got, ok, fault, lit, isDigit, comma, feed}
 use Rattle.rules.specs.File.{decimal, label, ranged, entries, rows}
 use Rattle.laws.proofs.Decimal.{decimal-one, decimal-long}
-use Rattle.laws.proofs.Exact.{Exact}
 use Rattle.laws.proofs.Whole.{exact-ranged}
 use Rattle.text.specs.declared.place.Step.{Step}
 use Rattle.text.specs.declared.place.Step.the-variants.{At, No}
@@ -27,7 +27,7 @@ module _ (i : ℕ) (s : List ℕ) (at : ℕ) (g : Got (Unit {0})) where
   pub label-one : i < 10 → g ≡ lit (112 ∷ (48 + i) ∷ 61 ∷ []) s at → g ≡ lit (label i) s at
   label-one h e = rw (decimal-one i h) e
 
-  pub label-two : 10 ≤ i → i < 64 → g ≡ lit (112 ∷ (48 + i / 10) ∷ (48 + i % 10) ∷ 61 ∷ []) s at → g ≡ lit (label i) s at
+  pub label-two : 10 ≤ i → i < mostProcs → g ≡ lit (112 ∷ (48 + i / 10) ∷ (48 + i % 10) ∷ 61 ∷ []) s at → g ≡ lit (label i) s at
   label-two h l e = rw (decimal-two i h (omega arith)) e
 
 -- ---- a line
@@ -43,11 +43,11 @@ module _ (i : ℕ) (s : List ℕ) (at : ℕ) (r : Step) (e : stepOf s r ≡ lit 
   pub line-label-bad : (n p : ℕ) → r ≡ No n p → fault n p ≡ entries i (drop at s) at
   line-label-bad n p f = rw (← e, f)
 
-  module _ (p : ℕ) (f : r ≡ At p) (q : Value) (qe : valueOf s q ≡ ranged 44 0 1000 (drop p s) p) where
+  module _ (p : ℕ) (f : r ≡ At p) (q : Value) (qe : valueOf s q ≡ ranged comma 0 mostRounds (drop p s) p) where
     pub line-rounds-bad : (n p′ : ℕ) → q ≡ Not n p′ → fault n p′ ≡ entries i (drop at s) at
     line-rounds-bad n p′ g = rw (← e, f, ← qe, g)
 
-    module _ (v p′ : ℕ) (g : q ≡ Is v p′) (t : Value) (te : valueOf s t ≡ ranged 10 0 255 (drop p′ s) p′) where
+    module _ (v p′ : ℕ) (g : q ≡ Is v p′) (t : Value) (te : valueOf s t ≡ ranged feed 0 mostHold (drop p′ s) p′) where
       pub line-hold-bad : (n p″ : ℕ) → t ≡ Not n p″ → fault n p″ ≡ entries i (drop at s) at
       line-hold-bad n p″ h = rw (← e, f, ← qe, g, ← te, h)
 

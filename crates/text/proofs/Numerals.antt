@@ -1,7 +1,7 @@
 -- Numbers at a place of the file: one law for each way out.
 use Prim.Native.Nat.{ℕ, zero, suc, _+_, _-_, _*_, _^_, _≤_, _<_}
-use mathlib.Core.Path.{_≡_, refl, ap, sym, _∙_}
-use mathlib.Core.List.{List, _∷_}
+use mathlib.Core.Path.{_≡_}
+use mathlib.Core.List.{List}
 use mathlib.Core.Bool.{_&&_, _||_}
 use lib.ListN.{length, getD, drop, drop-of-length-le}
 use lib.Dec.{ltb, eqb}
@@ -9,7 +9,7 @@ use borrow.Author.Tests.{eq-eqb, ne-eqb, le-leb, lt-leb, lt-ltb}
 use native.Mathlib.Omega.{arith}
 use Rattle.rules.specs.Memory.{pick}
 use Rattle.rules.specs.Bounds.{mostDigits}
-use Rattle.rules.specs.Rule.{Got, ok, fault, after, give, lit, isDigit, digits, number}
+use Rattle.rules.specs.Rule.{Got, ok, fault, lit, feed, isDigit, digits, number}
 use Rattle.rules.specs.File.{ranged, field}
 use Rattle.text.specs.declared.place.Step.{Step}
 use Rattle.text.specs.declared.place.Step.the-variants.{At, No}
@@ -103,7 +103,7 @@ module _ (a b : ℕ) (s : List ℕ) (p : ℕ) where
       unfolding number
       number-zero z e = rw (drop-next s p h, z) e
 
-      pub number-more : (getD s p 0 ≡ 48 → ⊥) → numeralOf s r ≡ digits a b 4 (getD s p 0 - 48) (drop (p + 1) s) (p + 1)
+      pub number-more : (getD s p 0 ≡ 48 → ⊥) → numeralOf s r ≡ digits a b (mostDigits - 1) (getD s p 0 - 48) (drop (p + 1) s) (p + 1)
           → numeralOf s r ≡ number a b (drop p s) p
       unfolding number
       number-more z e = rw (drop-next s p h, le-leb _ _ m, le-leb _ _ l, ne-eqb _ _ z) e
@@ -130,5 +130,5 @@ module _ (l : List ℕ) (lo hi : ℕ) (s : List ℕ) (at : ℕ) (r : Step) (e : 
   pub field-bad : (n p : ℕ) → r ≡ No n p → fault n p ≡ field l lo hi (drop at s) at
   field-bad n p f = rw (← e, f)
 
-  pub field-number : (p : ℕ) → r ≡ At p → (q : Value) → valueOf s q ≡ ranged 10 lo hi (drop p s) p → valueOf s q ≡ field l lo hi (drop at s) at
+  pub field-number : (p : ℕ) → r ≡ At p → (q : Value) → valueOf s q ≡ ranged feed lo hi (drop p s) p → valueOf s q ≡ field l lo hi (drop at s) at
   field-number p f q g = rw (← e, f, g)

@@ -6,12 +6,11 @@ use mathlib.Core.Bool.{true, false}
 use lib.ListN.{drop}
 use native.Mathlib.Decide.{decLe}
 use native.Mathlib.Omega.{arith}
-use Rattle.rules.specs.Bounds.{mostProcs}
+use Rattle.rules.specs.Bounds.{mostProcs, mostTicket, mostBudget}
 use Rattle.rules.specs.Machines.{bytes, numbered, known}
-use Rattle.rules.specs.Rule.{Got, ok, fault, lit}
-use Rattle.rules.specs.File.{Front, name, field, front}
+use Rattle.rules.specs.Rule.{ok, fault, lit}
+use Rattle.rules.specs.File.{name, field, front}
 use Rattle.rules.proofs.Known.{unknown-number}
-use Rattle.laws.proofs.Exact.{Exact}
 use Rattle.laws.proofs.Names.{exact-name}
 use Rattle.laws.proofs.Whole.{exact-field}
 use Rattle.text.specs.declared.place.Step.{Step}
@@ -34,18 +33,18 @@ module _ (l : List ℕ) (lo hi : ℕ) (s : List ℕ) (at : ℕ) (r : Value) (e :
 
 -- ---- procs and home
 
-module _ (m : ℕ) (s : List ℕ) (at : ℕ) (r : Value) (e : valueOf s r ≡ field (bytes "procs=") 1 64 (drop at s) at) where
+module _ (m : ℕ) (s : List ℕ) (at : ℕ) (r : Value) (e : valueOf s r ≡ field (bytes "procs=") 1 mostProcs (drop at s) at) where
   pub procs-bad : (n p : ℕ) → r ≡ Not n p → fault n p ≡ sizes m (drop at s) at
   procs-bad n p f = rw (← e, f)
 
   module _ (v p : ℕ) (f : r ≡ Is v p) where
-    said : (1 ≤ v) × (v ≤ 64)
-    said = field-said (bytes "procs=") 1 64 s at r e v p f (omega arith)
+    said : (1 ≤ v) × (v ≤ mostProcs)
+    said = field-said (bytes "procs=") 1 mostProcs s at r e v p f (omega arith)
 
     pub procs-some : 1 ≤ v
     procs-some = said .0
 
-    pub procs-most : v ≤ 64
+    pub procs-most : v ≤ mostProcs
     procs-most = said .1
 
     pub procs-fits : v < 2 ^ 16
@@ -64,11 +63,11 @@ module _ (m : ℕ) (s : List ℕ) (at : ℕ) (r : Value) (e : valueOf s r ≡ fi
 
 -- ---- ticket and budget
 
-module _ (m procs home : ℕ) (s : List ℕ) (at : ℕ) (r : Value) (e : valueOf s r ≡ field (bytes "ticket=") 0 65535 (drop at s) at) where
+module _ (m procs home : ℕ) (s : List ℕ) (at : ℕ) (r : Value) (e : valueOf s r ≡ field (bytes "ticket=") 0 mostTicket (drop at s) at) where
   pub ticket-bad : (n p : ℕ) → r ≡ Not n p → fault n p ≡ limits m procs home (drop at s) at
   ticket-bad n p f = rw (← e, f)
 
-  module _ (v p : ℕ) (f : r ≡ Is v p) (q : Value) (g : valueOf s q ≡ field (bytes "budget=") 0 16384 (drop p s) p) where
+  module _ (v p : ℕ) (f : r ≡ Is v p) (q : Value) (g : valueOf s q ≡ field (bytes "budget=") 0 mostBudget (drop p s) p) where
     pub budget-bad : (n p′ : ℕ) → q ≡ Not n p′ → fault n p′ ≡ limits m procs home (drop at s) at
     budget-bad n p′ h = rw (← e, f, ← g, h)
 

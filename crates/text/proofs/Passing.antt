@@ -27,11 +27,11 @@ module _ (procs : ℕ) (s : List ℕ) (p : ℕ) where
   turns-short h = rw (drop-of-length-le s h)
 
   module _ (h : p < length s) where
-    pub turns-none : getD s p 0 ≡ 10 → turns procs (drop p s) p ≡ ok [] (drop (p + 1) s) (p + 1)
+    pub turns-none : getD s p 0 ≡ feed → turns procs (drop p s) p ≡ ok [] (drop (p + 1) s) (p + 1)
     unfolding turns
     turns-none e = rw (drop-next s p h, eq-eqb _ _ e)
 
-    pub turns-some : (getD s p 0 ≡ 10 → ⊥) → turns procs (drop p s) p ≡ items mostTurns procs [] (drop p s) p
+    pub turns-some : (getD s p 0 ≡ feed → ⊥) → turns procs (drop p s) p ≡ items mostTurns procs [] (drop p s) p
     unfolding turns
     turns-some e = rw (drop-next s p h, ne-eqb _ _ e)
 
@@ -59,11 +59,11 @@ module _ (procs c : ℕ) (ts s : List ℕ) (p : ℕ) (r : Numeral) (e : numeralO
       unfolding items
       items-proc l = rw next (rw (← e, f, le-ltb _ _ l))
 
-      items-last : v < procs → x ≡ 10 → items (mostTurns - c) procs ts (drop p s) p ≡ ok (ts ++ v ∷ []) (drop q s) q
+      items-last : v < procs → x ≡ feed → items (mostTurns - c) procs ts (drop p s) p ≡ ok (ts ++ v ∷ []) (drop q s) q
       unfolding items
       items-last l t = rw next (rw (← e, f, lt-ltb _ _ l, eq-eqb _ _ t))
 
-      items-next : v < procs → (x ≡ 10 → ⊥)
+      items-next : v < procs → (x ≡ feed → ⊥)
           → items (mostTurns - c) procs ts (drop p s) p ≡ items (mostTurns - (c + 1)) procs (ts ++ v ∷ []) (drop q s) q
       unfolding items
       items-next l t = rw next (rw (← e, f, lt-ltb _ _ l, ne-eqb _ _ t))
@@ -79,10 +79,10 @@ pub record Counting (G : Got (List ℕ)) (procs c : ℕ) (s : List ℕ) (p : ℕ
 pub count-short : (procs : ℕ) (s : List ℕ) (p : ℕ) → length s ≤ p → fault 1 p ≡ counted (turns procs (drop p s) p)
 count-short procs s p h = rw (turns-short procs s p h)
 
-pub count-none : (procs : ℕ) (s : List ℕ) (p : ℕ) → p < length s → getD s p 0 ≡ 10 → ok 0 (drop (p + 1) s) (p + 1) ≡ counted (turns procs (drop p s) p)
+pub count-none : (procs : ℕ) (s : List ℕ) (p : ℕ) → p < length s → getD s p 0 ≡ feed → ok 0 (drop (p + 1) s) (p + 1) ≡ counted (turns procs (drop p s) p)
 count-none procs s p h e = rw (turns-none procs s p h e)
 
-pub count-start : (procs : ℕ) (s : List ℕ) (p : ℕ) → p < length s → (getD s p 0 ≡ 10 → ⊥) → Counting (turns procs (drop p s) p) procs 0 s p
+pub count-start : (procs : ℕ) (s : List ℕ) (p : ℕ) → p < length s → (getD s p 0 ≡ feed → ⊥) → Counting (turns procs (drop p s) p) procs 0 s p
 count-start procs s p h e = record { ts = []; long = refl; rest = turns-some procs s p h e }
 
 module _ (G : Got (List ℕ)) (procs c : ℕ) (s : List ℕ) (p : ℕ) (i : Counting G procs c s p) (r : Numeral) (e : numeralOf s r ≡ number comma feed (drop p s) p) where
@@ -100,10 +100,10 @@ module _ (G : Got (List ℕ)) (procs c : ℕ) (s : List ℕ) (p : ℕ) (i : Coun
       longer : length (i .ts ++ v ∷ []) ≡ c + 1
       longer = simp length-append (omega (arith, i .long))
 
-      pub count-last : v < procs → x ≡ 10 → ok (c + 1) (drop q s) q ≡ counted G
+      pub count-last : v < procs → x ≡ feed → ok (c + 1) (drop q s) q ≡ counted G
       count-last l t = rw (i .rest, items-last procs c (i .ts) s p r e v x q f m nc l t) (ap (λ (n : ℕ). ok n (drop q s) q) (sym longer))
 
-      pub count-next : v < procs → (x ≡ 10 → ⊥) → Counting G procs (c + 1) s q
+      pub count-next : v < procs → (x ≡ feed → ⊥) → Counting G procs (c + 1) s q
       count-next l t = record { ts = i .ts ++ v ∷ []; long = longer; rest = i .rest ∙ items-next procs c (i .ts) s p r e v x q f m nc l t }
 
 -- ---- the second pass
@@ -116,7 +116,7 @@ longer-than zero procs ts s at us s′ at′ e =
     (λ v s″ at″ f g. on-after v s″ at″ (number comma feed s at) _ f (λ w s₁ at₁ f₁ g₁. absurd (not-fault v s″ at″ 5 at g₁)))
 longer-than (suc k) procs ts s at us s′ at′ e =
     on-after us s′ at′ (checked 4 (λ v. ltb (v .0) procs) (number comma feed) s at) _ e
-    (λ v s″ at″ f h. one (eqb (v .1) 10) (v .0) s″ at″ (longer-than k procs (ts ++ v .0 ∷ []) s″ at″ us s′ at′) h)
+    (λ v s″ at″ f h. one (eqb (v .1) feed) (v .0) s″ at″ (longer-than k procs (ts ++ v .0 ∷ []) s″ at″ us s′ at′) h)
   where
     one : (b : Bool) (n : ℕ) (s″ : List ℕ) (at″ : ℕ) → (items k procs (ts ++ n ∷ []) s″ at″ ≡ ok us s′ at′ → length (ts ++ n ∷ []) < length us)
         → pick b (give (ts ++ n ∷ [])) (items k procs (ts ++ n ∷ [])) s″ at″ ≡ ok us s′ at′ → length ts < length us
@@ -138,10 +138,10 @@ pub record Filling (G : Got (List ℕ)) (procs i : ℕ) (s : List ℕ) (p : ℕ)
 pub fill-short : (procs : ℕ) (s : List ℕ) (p : ℕ) (d : List ℕ) → length s ≤ p → d ≡ filled (turns procs (drop p s) p) d
 fill-short procs s p d h = rw (turns-short procs s p h)
 
-pub fill-none : (procs : ℕ) (s : List ℕ) (p : ℕ) (d : List ℕ) → p < length s → getD s p 0 ≡ 10 → d ≡ filled (turns procs (drop p s) p) d
+pub fill-none : (procs : ℕ) (s : List ℕ) (p : ℕ) (d : List ℕ) → p < length s → getD s p 0 ≡ feed → d ≡ filled (turns procs (drop p s) p) d
 fill-none procs s p d h e = rw (turns-none procs s p h e)
 
-pub fill-start : (procs : ℕ) (s : List ℕ) (p : ℕ) (d : List ℕ) → p < length s → (getD s p 0 ≡ 10 → ⊥) → fitsIn (turns procs (drop p s) p) (length d)
+pub fill-start : (procs : ℕ) (s : List ℕ) (p : ℕ) (d : List ℕ) → p < length s → (getD s p 0 ≡ feed → ⊥) → fitsIn (turns procs (drop p s) p) (length d)
     → Filling (turns procs (drop p s) p) procs 0 s p d d
 fill-start procs s p d h e f = record { most = omega arith; rest = turns-some procs s p h e; tail = refl; long = refl; room = f }
 
@@ -180,11 +180,11 @@ module _ (G : Got (List ℕ)) (procs i : ℕ) (s : List ℕ) (p : ℕ) (d₀ d :
         front : length (take i d ++ v ∷ []) ≡ suc i
         front = let t : length (take i d) ≡ i = length-take-le i d (omega arith) in simp length-append (omega arith)
 
-        pub fill-last : x ≡ 10 → set d i v ≡ filled G d₀
+        pub fill-last : x ≡ feed → set d i v ≡ filled G d₀
         fill-last t =
             rw (I .rest, items-last procs i (take i d) s p r e v x q f (I .most) under l t, front, ← tails, set-split d i v h, append-assoc)
 
-        pub fill-next : (x ≡ 10 → ⊥) → Filling G procs (i + 1) s q d₀ (set d i v)
+        pub fill-next : (x ≡ feed → ⊥) → Filling G procs (i + 1) s q d₀ (set d i v)
         fill-next t = record {
           most = omega (arith, I .most, under);
           rest = rw takes (I .rest ∙ items-next procs i (take i d) s p r e v x q f (I .most) under l t);

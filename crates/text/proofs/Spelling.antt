@@ -1,14 +1,15 @@
 -- Names at a place of the file: one law for each way out.
 use Prim.Native.Nat.{ℕ, suc, _+_, _-_, _≤_, _<_}
-use mathlib.Core.Path.{_≡_, refl, ap, sym, _∙_}
+use mathlib.Core.Path.{_≡_}
 use mathlib.Core.List.{List, [], _∷_, _++_}
-use mathlib.Core.Bool.{Bool, true, false, _&&_}
-use lib.ListN.{length, getD, take, drop, drop-of-length-le, length-drop}
+use mathlib.Core.Bool.{Bool, true, false}
+use lib.ListN.{length, getD, drop, drop-of-length-le, length-drop}
 use lib.Seq.{take-suc, getD-drop}
 use borrow.Author.Tests.{eq-eqb, ne-eqb, le-leb, lt-leb, lt-ltb}
 use native.Mathlib.Omega.{arith}
 use Rattle.rules.specs.Machines.{bytes, same, named}
-use Rattle.rules.specs.Rule.{Got, ok, fault, letters, word}
+use Rattle.rules.specs.Bounds.{mostLetters}
+use Rattle.rules.specs.Rule.{Got, ok, fault, feed, letters, word}
 use Rattle.rules.specs.File.{name}
 use Rattle.text.specs.declared.place.Step.{Step}
 use Rattle.text.specs.declared.place.Step.the-variants.{At, No}
@@ -41,7 +42,7 @@ module _ (s : List ℕ) (p : ℕ) where
     unfolding word
     word-high m l = rw (drop-next s p h, le-leb _ _ m, lt-leb _ _ l)
 
-    pub word-starts : 97 ≤ getD s p 0 → getD s p 0 ≤ 122 → word (drop p s) p ≡ letters 7 (part s p (p + 1)) (drop (p + 1) s) (p + 1)
+    pub word-starts : 97 ≤ getD s p 0 → getD s p 0 ≤ 122 → word (drop p s) p ≡ letters (mostLetters - 1) (part s p (p + 1)) (drop (p + 1) s) (p + 1)
     unfolding word
     word-starts m l = rw (part-one s p h, drop-next s p h, le-leb _ _ m, le-leb _ _ l)
 
@@ -51,11 +52,11 @@ module _ (k : ℕ) (s : List ℕ) (a p : ℕ) (g : Got (List ℕ)) (e : g ≡ le
   letters-short h = rw (e, drop-of-length-le s h)
 
   module _ (h : p < length s) where
-    pub letters-end : getD s p 0 ≡ 10 → ok (part s a (p + 1 - 1)) (drop (p + 1) s) (p + 1) ≡ g
+    pub letters-end : getD s p 0 ≡ feed → ok (part s a (p + 1 - 1)) (drop (p + 1) s) (p + 1) ≡ g
     unfolding letters
     letters-end x = let f : p + 1 - 1 ≡ p = omega arith in rw (f, e, drop-next s p h, eq-eqb _ _ x)
 
-    module _ (nx : getD s p 0 ≡ 10 → ⊥) where
+    module _ (nx : getD s p 0 ≡ feed → ⊥) where
       pub letters-full : k ≡ 0 → fault 1 p ≡ g
       unfolding letters
       letters-full z = rw (e, drop-next s p h, ne-eqb _ _ nx, z)

@@ -1,6 +1,6 @@
 -- What the answers of the reading functions mean: for every case of each enum its value, what is left of the file and the place of that; or the number of refusal and its place.
 use Prim.Native.Nat.{ℕ, _-_, _≤_, _<_}
-use mathlib.Core.List.{List, _++_}
+use mathlib.Core.List.{List}
 use lib.ListN.{length, take, drop}
 use Rattle.rules.specs.Settings.{Settings}
 use Rattle.rules.specs.Bounds.{mostProcs, mostTicket, mostBudget}

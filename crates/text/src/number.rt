@@ -6,7 +6,7 @@ use crate::place::Value;
 use crate::place::label;
 use settings::OUTSIDE;
 ghost use mathlib.Core.Path.{_≡_};
-ghost use Prim.Native.Nat.{_-_, _^_, _<_, _≤_};
+ghost use Prim.Native.Nat.{_-_, _^_, _<_};
 ghost use lib.ListN.{drop};
 ghost use Rattle.rules.specs.Bounds.{mostDigits};
 ghost use Rattle.rules.specs.Rule.{digits, number};

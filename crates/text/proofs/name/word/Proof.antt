@@ -1,8 +1,9 @@
 -- `text::name::word` meets its contract. The loop keeps: the whole word is what is left of it after the letters so far.
 use borrow.Author.Needs.{needs}
-use Prim.Native.Nat.{_≤_, _<_}
+use Prim.Native.Nat.{_<_}
 use mathlib.Core.Path.{_≡_}
 use lib.ListN.{drop}
+use Rattle.rules.specs.Bounds.{mostLetters}
 use Rattle.rules.specs.Rule.{letters, word}
 use Rattle.text.specs.Places.{part}
 use Rattle.text.proofs.Spelling.{word-short, word-low, word-high, word-starts, letters-short, letters-end, letters-full, letters-low, letters-high, letters-on}
@@ -10,7 +11,7 @@ use Rattle.text.proofs.name.word.Statement.{statement}
 use Rattle.text.proofs.name.word.Tie as tie
 
 abbrev Inv-loop : tie.InvT-loop
-Inv-loop file at first k₀ p₀ k p = (k ≤ 7) × (at < p) × (word (drop at file) at ≡ letters k (part file at p) (drop p file) p)
+Inv-loop file at first k₀ p₀ k p = (k < mostLetters) × (at < p) × (word (drop at file) at ≡ letters k (part file at p) (drop p file) p)
 
 abbrev μ-loop : tie.MeasureT-loop
 μ-loop file at first k₀ p₀ k p = k

@@ -1,6 +1,6 @@
 -- `text::place::label` meets its contract. The loop keeps: the whole label at its place is what is left of it here.
 use borrow.Author.Needs.{needs}
-use Prim.Native.Nat.{ℕ, _≤_, _-_}
+use Prim.Native.Nat.{_≤_, _-_}
 use mathlib.Core.Path.{_≡_, refl}
 use lib.ListN.{length, drop}
 use Rattle.rules.specs.Rule.{lit}
