@@ -5,3 +5,4 @@ mod Lining
 mod Passing
 mod Opening
 mod Answering
+pub mod OneOutcome
