@@ -6,3 +6,4 @@ mod Passing
 mod Opening
 mod Answering
 pub mod OneOutcome
+pub mod Entries

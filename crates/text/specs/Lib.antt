@@ -1,2 +1,4 @@
 pub mod Places
 pub mod ReadView
+pub mod WriteView
+pub mod Entries
