@@ -32,6 +32,7 @@ pub struct ReadAnswer {
     pub count: usize,
 }
 
+// Zeros, and a settings record of zeros.
 fn refuse(number: u8, place: usize) -> ReadAnswer
     ensures { λ r. ⌜ answerOf r ≡ refused number place ⌝ }
 {
