@@ -13,6 +13,7 @@ use Rattle.rules.specs.File.{name, field, front}
 use Rattle.rules.proofs.Known.{unknown-number}
 use Rattle.laws.proofs.Names.{exact-name}
 use Rattle.laws.proofs.Whole.{exact-field}
+use Rattle.laws.proofs.RoundTrip.{exact-front}
 use Rattle.text.specs.declared.place.Step.{Step}
 use Rattle.text.specs.declared.place.Step.the-variants.{At, No}
 use Rattle.text.specs.declared.place.Value.{Value}
@@ -20,7 +21,7 @@ use Rattle.text.specs.declared.place.Value.the-variants.{Is, Not}
 use Rattle.text.specs.declared.front.Head.{Head}
 use Rattle.text.specs.declared.front.Opened.{Opened}
 use Rattle.text.specs.declared.front.Opened.the-variants.{Good}
-use Rattle.text.specs.Places.{stepOf, valueOf, frontOf, frontSmall, limits, sizes}
+use Rattle.text.specs.Places.{stepOf, valueOf, headOf, frontOf, limits, sizes}
 
 -- ---- what a field that was read says
 
@@ -43,9 +44,6 @@ module _ (m : ℕ) (s : List ℕ) (at : ℕ) (r : Value) (e : valueOf s r ≡ fi
 
     pub procs-some : 1 ≤ v
     procs-some = said .0
-
-    pub procs-most : v ≤ mostProcs
-    procs-most = said .1
 
     pub procs-fits : v < 2 ^ 16
     procs-fits = omega (arith, said)
@@ -106,5 +104,6 @@ name-fits s p q g m p′ h =
     let w = exact-name .was (drop p s) p m (drop p′ s) p′ (sym g ∙ ap (valueOf s) h) in
     omega (arith, known-most m (w .1))
 
-pub front-small : (o : Opened) → frontSmall o → (h : Head) (p : ℕ) → o ≡ Good h p → h .procs ≤ mostProcs
-front-small o k h p e = rw e at k
+-- what the five lines say, where they are accepted
+pub front-small : (s : List ℕ) (o : Opened) → frontOf s o ≡ front s 0 → (h : Head) (p : ℕ) → o ≡ Good h p → h .procs ≤ mostProcs
+front-small s o e h p f = exact-front .was s 0 (headOf h) (drop p s) p (sym e ∙ ap (frontOf s) f) .1 .procs-high

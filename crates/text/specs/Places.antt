@@ -58,10 +58,6 @@ abbrev pub frontOf : List ℕ → Opened → Got Front
 frontOf s (Good h at) = ok (headOf h) (drop at s) at
 frontOf s (Faulty n p) = fault n p
 
-abbrev pub frontSmall : Opened → Type 0
-frontSmall (Good h at) = h .procs ≤ mostProcs
-frontSmall (Faulty n p) = Unit {0}
-
 -- the lines from `ticket=` on, and from `procs=` on
 abbrev pub limits : ℕ → ℕ → ℕ → Rule Front
 limits algo procs home = do

@@ -9,12 +9,11 @@ use settings::MOST_BUDGET;
 use settings::MOST_PROCS;
 use settings::MOST_TICKET;
 ghost use mathlib.Core.Path.{_≡_};
-ghost use Prim.Native.Nat.{_≤_};
 ghost use lib.ListN.{drop};
-ghost use Rattle.rules.specs.Bounds.{mostProcs};
 ghost use Rattle.rules.specs.File.{front};
-ghost use Rattle.text.specs.Places.{frontOf, frontSmall, sizes, limits};
+ghost use Rattle.text.specs.Places.{frontOf, sizes, limits};
 
+// What they say.
 pub(crate) struct Head {
     pub(crate) algo: u16,
     pub(crate) procs: u16,
@@ -32,7 +31,6 @@ pub(crate) enum Opened {
 // All five lines.
 pub(crate) fn front(file: &[u8]) -> Opened
     ensures { λ r. ⌜ frontOf (now (file .entry)) r ≡ front (now (file .entry)) 0 ⌝ }
-    ensures { λ r. ⌜ frontSmall r ⌝ }
 {
     let labelled = label(file, b"algo=", 0);
     let a = match labelled {
@@ -51,7 +49,6 @@ pub(crate) fn front(file: &[u8]) -> Opened
 // The lines from `procs=` on.
 fn sizes(file: &[u8], algo: u16, at: usize) -> Opened
     ensures { λ r. ⌜ frontOf (now (file .entry)) r ≡ sizes algo (drop at (now (file .entry))) at ⌝ }
-    ensures { λ r. ⌜ frontSmall r ⌝ }
 {
     let first = field(file, b"procs=", LEAST_PROCS as usize, MOST_PROCS, at);
     match first {
@@ -68,9 +65,7 @@ fn sizes(file: &[u8], algo: u16, at: usize) -> Opened
 
 // The lines from `ticket=` on.
 fn limits(file: &[u8], algo: u16, procs: u16, home: u16, at: usize) -> Opened
-    requires { ⌜ procs ≤ mostProcs ⌝ }
     ensures { λ r. ⌜ frontOf (now (file .entry)) r ≡ limits algo procs home (drop at (now (file .entry))) at ⌝ }
-    ensures { λ r. ⌜ frontSmall r ⌝ }
 {
     let first = field(file, b"ticket=", 0, MOST_TICKET as usize, at);
     match first {

@@ -5,7 +5,7 @@ mod name;
 mod number;
 mod place;
 mod reading;
-mod turns;
+mod schedule;
 
 pub use reading::ReadAnswer;
 pub use reading::read;

@@ -55,6 +55,7 @@ fn word(file: &[u8], at: usize) -> Step
     }
 }
 
+// Whether two texts are the same.
 fn same(a: &[u8], b: &[u8]) -> bool
     ensures { λ r. ⌜ r ≡ same (now (a .entry)) (now (b .entry)) ⌝ }
 {

@@ -7,8 +7,8 @@ use crate::place::MALFORMED;
 use crate::place::Step;
 use crate::place::Value;
 use crate::place::label;
-use crate::turns::count;
-use crate::turns::fill;
+use crate::schedule::count;
+use crate::schedule::fill;
 use settings::ACCEPTED;
 use settings::MOST_PROCS;
 use settings::Settings;
@@ -32,6 +32,7 @@ pub struct ReadAnswer {
     pub count: usize,
 }
 
+// Zeros, and a settings record of zeros.
 fn refuse(number: u8, place: usize) -> ReadAnswer
     ensures { λ r. ⌜ answerOf r ≡ refused number place ⌝ }
 {

@@ -8,9 +8,9 @@ pub front-spec : {M : Type 1} → statement M
 front-spec =
     tie.close
     (tie.spec (λ c. search needs) (λ c κs. search needs) (λ c. search needs)
-    (λ c. (search algo-bad, tt))
+    (λ c. search algo-bad)
     (λ c. search needs) (λ c κs. search needs) (λ c. search needs) (λ c. search needs)
     (λ c. search name-fits)
     (λ c κs. search needs)
-    (λ c. (search front-name-bad, tt))
-    (λ c. (search front-ok, search needs)))
+    (λ c. search front-name-bad)
+    (λ c. search front-ok))

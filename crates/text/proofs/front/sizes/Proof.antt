@@ -1,6 +1,6 @@
 -- `text::front::sizes` meets its contract.
 use borrow.Author.Needs.{needs}
-use Rattle.text.proofs.Opening.{procs-bad, procs-some, procs-most, procs-fits, home-bad, home-fits, sizes-ok}
+use Rattle.text.proofs.Opening.{procs-bad, procs-some, procs-fits, home-bad, home-fits, sizes-ok}
 use Rattle.text.proofs.front.sizes.Statement.{statement}
 use Rattle.text.proofs.front.sizes.Tie as tie
 
@@ -12,7 +12,7 @@ sizes-spec =
     (λ c κs. search needs) (λ c. search needs) (λ c. search needs)
     (λ c. search procs-fits)
     (λ c. search home-fits)
-    (λ c κs. search procs-most)
-    (λ c. (search procs-bad, tt))
-    (λ c. (search home-bad, tt))
-    (λ c. (search sizes-ok, search needs)))
+    (λ c κs. search needs)
+    (λ c. search procs-bad)
+    (λ c. search home-bad)
+    (λ c. search sizes-ok))

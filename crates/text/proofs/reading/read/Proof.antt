@@ -9,7 +9,7 @@ pub read-spec : {M : Type 1} → statement M
 read-spec =
     tie.close
     (tie.spec (λ c κs. search needs) (λ c. search needs) (λ c κs. search needs) (λ c. search needs)
-    (λ c κs. front-small _ (c .before .before .before .before .front .ensures .1) _ _ (c .before .before .got2 .given .1))
+    (λ c κs. search front-small)
     (λ c. search read-refused)
     (λ c. search needs)
     (λ c. search read-on))

@@ -1,11 +1,11 @@
--- `text::turns::fill` meets its contract.
+-- `text::schedule::fill` meets its contract.
 use borrow.Author.Needs.{needs}
 use Prim.Native.Nat.{_-_}
 use lib.ListN.{length, drop}
 use Rattle.rules.specs.File.{turns}
 use Rattle.text.proofs.Passing.{Filling, fill-short, fill-none, fill-start, fill-bad, fill-proc, fill-last, fill-next, fill-full}
-use Rattle.text.proofs.turns.fill.Statement.{statement}
-use Rattle.text.proofs.turns.fill.Tie as tie
+use Rattle.text.proofs.schedule.fill.Statement.{statement}
+use Rattle.text.proofs.schedule.fill.Tie as tie
 
 abbrev Inv-loop : tie.InvT-loop
 Inv-loop file procs at schedule₀ i₀ p₀ schedule i p = Filling (turns procs (drop at file) at) procs i file p schedule₀ schedule

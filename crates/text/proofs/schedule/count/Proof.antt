@@ -1,12 +1,12 @@
--- `text::turns::count` meets its contract.
+-- `text::schedule::count` meets its contract.
 use borrow.Author.Needs.{needs}
 use Prim.Native.Nat.{_≤_, _-_}
 use lib.ListN.{drop}
 use Rattle.rules.specs.Bounds.{mostTurns}
 use Rattle.rules.specs.File.{turns}
 use Rattle.text.proofs.Passing.{Counting, count-short, count-none, count-start, count-bad, count-many, count-proc, count-last, count-next}
-use Rattle.text.proofs.turns.count.Statement.{statement}
-use Rattle.text.proofs.turns.count.Tie as tie
+use Rattle.text.proofs.schedule.count.Statement.{statement}
+use Rattle.text.proofs.schedule.count.Tie as tie
 
 abbrev Inv-loop : tie.InvT-loop
 Inv-loop file procs at c₀ p₀ c p = (c ≤ mostTurns) × Counting (turns procs (drop at file) at) procs c file p
