@@ -1,0 +1,2 @@
+// The settings file: how it is written.
+mod putting;
