@@ -1,6 +1,8 @@
 // Bytes of the file, put into a lent buffer from a place on. Each function answers the place after them.
+use settings::MOST_PROCS;
+ghost use Prim.Native.Nat.{_≤_};
 ghost use mathlib.Core.List.{_++_, _∷_, []};
-ghost use Rattle.rules.specs.File.{decimal, fieldText, entriesText};
+ghost use Rattle.rules.specs.File.{decimal, fieldText, entriesText, rowsText, turnsText};
 ghost use Rattle.text.specs.PutView.{Room, Put};
 
 pub(crate) fn put(out: &mut [u8], at: usize, t: &[u8]) -> usize
@@ -62,4 +64,44 @@ fn put_entries(out: &mut [u8], at: usize, i: usize, rounds: usize, hold: usize) 
     let q = put_number(out, p, i, b'=');
     let r = put_number(out, q, rounds, b',');
     put_number(out, r, hold, b'\n')
+}
+
+// The processors' lines.
+pub(crate) fn put_rows(
+    out: &mut [u8],
+    at: usize,
+    procs: usize,
+    rounds: [u16; MOST_PROCS],
+    hold: [u16; MOST_PROCS],
+) -> usize
+    requires { ⌜ procs ≤ 64 ⌝ }
+    requires { ⌜ Room (rowsText procs 0 rounds hold) (now out) at ⌝ }
+    ensures { λ r. ⌜ Put (rowsText procs 0 rounds hold) (now (out .entry)) at (now (out .exit)) r ⌝ }
+{
+    let mut i: usize = 0;
+    let mut p = at;
+    while i < procs {
+        p = put_entries(out, p, i, rounds[i] as usize, hold[i] as usize);
+        i += 1;
+    }
+    p
+}
+
+// The turns, or nothing, and a line feed.
+pub(crate) fn put_turns(out: &mut [u8], at: usize, turns: &[u16]) -> usize
+    requires { ⌜ Room (turnsText (now turns)) (now out) at ⌝ }
+    ensures { λ r. ⌜ Put (turnsText (now (turns .entry))) (now (out .entry)) at (now (out .exit)) r ⌝ }
+{
+    let n = turns.len();
+    if n == 0 {
+        return put_byte(out, at, b'\n');
+    }
+    let last = n - 1;
+    let mut i: usize = 0;
+    let mut p = at;
+    while i < last {
+        p = put_number(out, p, turns[i] as usize, b',');
+        i += 1;
+    }
+    put_number(out, p, turns[last] as usize, b'\n')
 }
