@@ -63,7 +63,7 @@ module _ (procs : ℕ) (rounds hold : List ℕ) where
 
 -- ---- the turns
 
-none : (ts : List ℕ) → length ts ≡ 0 → ts ≡ []
+pub none : (ts : List ℕ) → length ts ≡ 0 → ts ≡ []
 none [] e = refl
 none (x ∷ ts) e = absurd (omega arith)
 

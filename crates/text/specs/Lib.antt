@@ -1,1 +1,2 @@
 pub mod PutView
+pub mod LengthView

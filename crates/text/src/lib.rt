@@ -1,2 +1,3 @@
 // The settings file: how it is written.
+mod lengths;
 mod putting;
