@@ -9,10 +9,10 @@ use mir.Syntax.{w16}
 use mir.Val.{Fits}
 use native.Mathlib.Decide.{ℕ-discrete}
 use native.Mathlib.Omega.{arith}
-use Rattle.rules.specs.Settings.{entry}
+use Rattle.rules.specs.Settings.{Settings, entry}
 use Rattle.rules.specs.Machines.{numbered, known}
 use Rattle.rules.specs.Rule.{feed, comma}
-use Rattle.rules.specs.File.{decimal, label, entriesText, rowsText, turnsText}
+use Rattle.rules.specs.File.{decimal, label, entriesText, rowsText, turnsText, text}
 use Rattle.rules.proofs.Store.{false-true}
 use Rattle.rules.proofs.Known.{unknown-number}
 use Rattle.laws.proofs.Decimal.{decimal-one, decimal-long}
@@ -154,3 +154,15 @@ module _ (ts : List ℕ) (total i : ℕ) (b : Before ts total i) where
       go : (ts : List ℕ) → length ts ≢ 0 → total + turnBytes [] ≡ turnBytes ts → Long (turnsText ts) 98304 total
       go [] z e = absurd (z refl)
       go (t ∷ ts) z e = record { is = omega (arith, turns-bytes t ts); few = omega arith }
+
+-- ---- the whole file
+
+pub file-long : (s : Settings) (ts : List ℕ) (n a b c d l t : ℕ) → Long (numbered (s .algo) .name) 8 n
+    → Long (decimal (s .procs)) 5 a → Long (decimal (s .home)) 5 b → Long (decimal (s .ticket)) 5 c → Long (decimal (s .budget)) 5 d
+    → Long (rowsText (s .procs) 0 (s .rounds) (s .hold)) 1280 l → Long (turnsText ts) 98304 t
+    → Long (text s ts) 100000 (n + (a + b) + (c + d) + l + t + 41)
+unfolding text
+file-long s ts n a b c d l t N A B C D L T = record {
+  is = simp length-append (omega (arith, N .is, A .is, B .is, C .is, D .is, L .is, T .is));
+  few = omega (arith, N .few, A .few, B .few, C .few, D .few, L .few, T .few);
+}

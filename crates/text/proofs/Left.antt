@@ -19,7 +19,7 @@ pub record Left (t d₀ : List ℕ) (at : ℕ) (u d : List ℕ) (p : ℕ) : Type
   pub room : Room u d p
   pub done : (d′ : List ℕ) (r : ℕ) → Put u d p d′ r → Put t d₀ at d′ r
 
-left-next : (t d₀ : List ℕ) (at : ℕ) (u v d : List ℕ) (p : ℕ) → Left t d₀ at (u ++ v) d p
+pub left-next : (t d₀ : List ℕ) (at : ℕ) (u v d : List ℕ) (p : ℕ) → Left t d₀ at (u ++ v) d p
     → (d₁ : List ℕ) (q : ℕ) → Put u d p d₁ q → length d₁ ≡ length d → Left t d₀ at v d₁ q
 left-next t d₀ at u v d p l d₁ q a e = record {
   room = room-next u v d p (l .room) d₁ q a e;

@@ -2,14 +2,20 @@
 use settings::CENTRAL;
 use settings::MCS;
 use settings::MOST_PROCS;
+use settings::Settings;
 use settings::TICKET;
 ghost use mathlib.Core.Path.{_≡_};
 ghost use mathlib.Core.Bool.{true};
 ghost use Prim.Native.Nat.{_≤_};
 ghost use lib.ListN.{length};
 ghost use Rattle.rules.specs.Machines.{numbered, known};
-ghost use Rattle.rules.specs.File.{decimal, entriesText, rowsText, turnsText};
+ghost use Rattle.rules.specs.File.{decimal, entriesText, rowsText, turnsText, text};
+ghost use Rattle.rules.proofs.Accepted.{Accepted};
+ghost use Rattle.settings.specs.View.{settingsOf};
 ghost use Rattle.text.specs.LengthView.{Long};
+
+// The labels and line feeds of the lines that are in every file.
+const FIXED: usize = 41;
 
 // How many digits a number has.
 pub(crate) fn digits_of(n: u16) -> usize
@@ -77,4 +83,17 @@ pub(crate) fn turns_length(turns: &[u16]) -> usize
         i += 1;
     }
     total
+}
+
+pub(crate) fn file_length(s: Settings, schedule: &[u16]) -> usize
+    requires { ⌜ Accepted (settingsOf s) (now schedule) ⌝ }
+    ensures { λ r. ⌜ Long (text (settingsOf s) (now (schedule .entry))) 100000 r ⌝ }
+{
+    let rounds = s.rounds;
+    let hold = s.hold;
+    let sizes = digits_of(s.procs) + digits_of(s.home);
+    let limits = digits_of(s.ticket as u16) + digits_of(s.budget as u16);
+    let rows = rows_length(s.procs as usize, rounds, hold);
+    let turns = turns_length(schedule);
+    name_length(s.algo) + sizes + limits + rows + turns + FIXED
 }

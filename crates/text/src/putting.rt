@@ -1,9 +1,18 @@
 // Bytes of the file, put into a lent buffer from a place on. Each function answers the place after them.
+use settings::CENTRAL;
+use settings::MCS;
 use settings::MOST_PROCS;
+use settings::Settings;
+use settings::TICKET;
+ghost use mathlib.Core.Path.{_≡_};
+ghost use mathlib.Core.Bool.{true};
 ghost use Prim.Native.Nat.{_≤_};
 ghost use mathlib.Core.List.{_++_, _∷_, []};
-ghost use Rattle.rules.specs.File.{decimal, fieldText, entriesText, rowsText, turnsText};
-ghost use Rattle.text.specs.PutView.{Room, Put};
+ghost use Rattle.rules.specs.Machines.{numbered, known};
+ghost use Rattle.rules.specs.File.{decimal, fieldText, entriesText, rowsText, turnsText, text};
+ghost use Rattle.rules.proofs.Accepted.{Accepted};
+ghost use Rattle.settings.specs.View.{settingsOf};
+ghost use Rattle.text.specs.PutView.{Room, Put, nameText, sizesText, limitsText, frontText};
 
 pub(crate) fn put(out: &mut [u8], at: usize, t: &[u8]) -> usize
     requires { ⌜ Room (now t) (now out) at ⌝ }
@@ -104,4 +113,60 @@ pub(crate) fn put_turns(out: &mut [u8], at: usize, turns: &[u16]) -> usize
         i += 1;
     }
     put_number(out, p, turns[last] as usize, b'\n')
+}
+
+// The name, and a line feed.
+fn put_name(out: &mut [u8], at: usize, algo: u16) -> usize
+    requires { ⌜ known (numbered algo) ≡ true ⌝ }
+    requires { ⌜ Room (nameText algo) (now out) at ⌝ }
+    ensures { λ r. ⌜ Put (nameText algo) (now (out .entry)) at (now (out .exit)) r ⌝ }
+{
+    match algo {
+        TICKET => put(out, at, b"ticket\n"),
+        MCS => put(out, at, b"mcs\n"),
+        CENTRAL => put(out, at, b"central\n"),
+        _ => put(out, at, b"dissem\n"),
+    }
+}
+
+fn put_sizes(out: &mut [u8], at: usize, procs: u16, home: u16) -> usize
+    requires { ⌜ Room (sizesText procs home) (now out) at ⌝ }
+    ensures { λ r. ⌜ Put (sizesText procs home) (now (out .entry)) at (now (out .exit)) r ⌝ }
+{
+    let p = put_field(out, at, b"procs=", procs as usize);
+    put_field(out, p, b"home=", home as usize)
+}
+
+fn put_limits(out: &mut [u8], at: usize, ticket: u32, budget: u32) -> usize
+    requires { ⌜ Room (limitsText ticket budget) (now out) at ⌝ }
+    ensures { λ r. ⌜ Put (limitsText ticket budget) (now (out .entry)) at (now (out .exit)) r ⌝ }
+{
+    let p = put_field(out, at, b"ticket=", ticket as usize);
+    put_field(out, p, b"budget=", budget as usize)
+}
+
+// The lines before the processors'.
+fn put_front(out: &mut [u8], at: usize, s: Settings) -> usize
+    requires { ⌜ known (numbered (s .algo)) ≡ true ⌝ }
+    requires { ⌜ Room (frontText (s .algo) (s .procs) (s .home) (s .ticket) (s .budget)) (now out) at ⌝ }
+    ensures { λ r. ⌜ Put (frontText (s .algo) (s .procs) (s .home) (s .ticket) (s .budget)) (now (out .entry)) at (now (out .exit)) r ⌝ }
+{
+    let p = put(out, at, b"algo=");
+    let q = put_name(out, p, s.algo);
+    let r = put_sizes(out, q, s.procs, s.home);
+    put_limits(out, r, s.ticket, s.budget)
+}
+
+// The whole file.
+pub(crate) fn put_file(out: &mut [u8], s: Settings, schedule: &[u16]) -> usize
+    requires { ⌜ Accepted (settingsOf s) (now schedule) ⌝ }
+    requires { ⌜ Room (text (settingsOf s) (now schedule)) (now out) 0 ⌝ }
+    ensures { λ r. ⌜ Put (text (settingsOf s) (now (schedule .entry))) (now (out .entry)) 0 (now (out .exit)) r ⌝ }
+{
+    let rounds = s.rounds;
+    let hold = s.hold;
+    let p = put_front(out, 0, s);
+    let q = put_rows(out, p, s.procs as usize, rounds, hold);
+    let r = put(out, q, b"turns=");
+    put_turns(out, r, schedule)
 }
