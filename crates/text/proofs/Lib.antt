@@ -2,3 +2,4 @@ pub mod Puts
 pub mod Left
 pub mod Counted
 pub mod Filed
+pub mod Writes
