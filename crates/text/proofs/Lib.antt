@@ -3,3 +3,4 @@ pub mod Left
 pub mod Counted
 pub mod Filed
 pub mod Writes
+pub mod OneOutcomeWrite
