@@ -9,9 +9,10 @@ use native.Mathlib.Numerals.{add-one}
 use native.Mathlib.Nat.{add-zero}
 use native.Mathlib.Omega.{arith}
 use Rattle.rules.specs.Settings.{entry}
+use Rattle.rules.specs.Machines.{bytes}
 use Rattle.rules.specs.Rule.{feed, comma}
 use Rattle.rules.specs.File.{decimal, entriesText, rowsText, turnsText}
-use Rattle.text.specs.PutView.{over, Room, Put}
+use Rattle.text.specs.PutView.{over, Room, Put, turnsLine}
 use Rattle.text.proofs.Puts.{room-first, room-next, put-then}
 
 -- of t, which is put over d₀ at a place, u is left, and goes to p
@@ -19,7 +20,7 @@ pub record Left (t d₀ : List ℕ) (at : ℕ) (u d : List ℕ) (p : ℕ) : Type
   pub room : Room u d p
   pub done : (d′ : List ℕ) (r : ℕ) → Put u d p d′ r → Put t d₀ at d′ r
 
-pub left-next : (t d₀ : List ℕ) (at : ℕ) (u v d : List ℕ) (p : ℕ) → Left t d₀ at (u ++ v) d p
+left-next : (t d₀ : List ℕ) (at : ℕ) (u v d : List ℕ) (p : ℕ) → Left t d₀ at (u ++ v) d p
     → (d₁ : List ℕ) (q : ℕ) → Put u d p d₁ q → length d₁ ≡ length d → Left t d₀ at v d₁ q
 left-next t d₀ at u v d p l d₁ q a e = record {
   room = room-next u v d p (l .room) d₁ q a e;
@@ -115,3 +116,19 @@ module _ (ts t d₀ : List ℕ) (at : ℕ) (d : List ℕ) (p i : ℕ) (l : Left 
 
     pub turns-done : (d₂ : List ℕ) (r : ℕ) → Put (decimal (getD ts (length ts - 1) 0) ++ feed ∷ []) d p d₂ r → Put t d₀ at d₂ r
     turns-done = final .done
+
+-- ---- the line of the turns
+
+module _ (ts d : List ℕ) (at : ℕ) (h : Room (turnsLine ts) d at) where
+  pub turns-label : Room (bytes "turns=") d at
+  unfolding turnsLine
+  turns-label = room-first (bytes "turns=") (turnsText ts) d at h
+
+  module _ (d₁ : List ℕ) (p : ℕ) (a : Put (bytes "turns=") d at d₁ p) where
+    pub items-room : length d₁ ≡ length d → Room (turnsText ts) d₁ p
+    unfolding turnsLine
+    items-room = room-next (bytes "turns=") (turnsText ts) d at h d₁ p a
+
+    pub line-done : (d₂ : List ℕ) (r : ℕ) → Put (turnsText ts) d₁ p d₂ r → Put (turnsLine ts) d at d₂ r
+    unfolding turnsLine
+    line-done = put-then (bytes "turns=") (turnsText ts) d at h d₁ p a

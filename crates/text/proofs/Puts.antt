@@ -75,6 +75,18 @@ module _ (t u d : List ℕ) (at : ℕ) (h : Room (t ++ u) d at) where
       is = b .is ∙ rw (a .is, a .place) (over-over t u d at (rw length-append at (h .fits)));
     }
 
+-- three texts
+module _ (t u v d : List ℕ) (at : ℕ) (h : Room (t ++ (u ++ v)) d at) (d₁ : List ℕ) (p : ℕ) (a : Put t d at d₁ p) (e : length d₁ ≡ length d) where
+  pub room-second : Room u d₁ p
+  room-second = room-first u v d₁ p (room-next t (u ++ v) d at h d₁ p a e)
+
+  module _ (d₂ : List ℕ) (q : ℕ) (b : Put u d₁ p d₂ q) where
+    pub room-third : length d₂ ≡ length d₁ → Room v d₂ q
+    room-third = room-next u v d₁ p (room-next t (u ++ v) d at h d₁ p a e) d₂ q b
+
+    pub put-third : (d₃ : List ℕ) (r : ℕ) → Put v d₂ q d₃ r → Put (t ++ (u ++ v)) d at d₃ r
+    put-third d₃ r c = put-then t (u ++ v) d at h d₁ p a d₃ r (put-then u v d₁ p (room-next t (u ++ v) d at h d₁ p a e) d₂ q b d₃ r c)
+
 -- ---- a number
 
 module _ (n : ℕ) (d : List ℕ) (at : ℕ) (h : n < 10) where

@@ -16,8 +16,9 @@ use Rattle.rules.proofs.Accepted.{Accepted, accepted, accepts, refusal-room}
 use Rattle.settings.specs.declared.Settings.{Settings}
 use Rattle.settings.specs.View.{settingsOf, Checked}
 use Rattle.text.specs.LengthView.{Long}
-use Rattle.text.specs.PutView.{over, Room, Put}
+use Rattle.text.specs.PutView.{over, Room, Put, fileText}
 use Rattle.text.specs.WriteView.{WriteIs}
+use Rattle.text.proofs.Filed.{parted}
 
 -- what is put at 0 stands at the front
 at-front : (d t : List ℕ) → over d 0 t ≡ t ++ drop (length t) d
@@ -57,13 +58,14 @@ module _ (s : Settings) (turns out : List ℕ) where
             refuses 6 (λ z. omega arith) (ap (λ (b : Bool). pick b 0 6) (sym f) ∙ given 0 nothing)
 
         module _ (h : l ≤ length out) where
-          pub write-room : Room (text (settingsOf s) turns) out 0
-          write-room = record { fits = omega (arith, g .is) }
+          pub write-room : Room (fileText (settingsOf s) turns) out 0
+          write-room = rw (← parted (settingsOf s) turns) (record { fits = omega (arith, g .is) })
 
-          pub write-done : (out′ : List ℕ) (r : ℕ) → Put (text (settingsOf s) turns) out 0 out′ r
+          pub write-done : (out′ : List ℕ) (r : ℕ) → Put (fileText (settingsOf s) turns) out 0 out′ r
               → WriteIs (settingsOf s) turns out out′ (record { number = 0; count = r })
           unfolding writing
-          write-done out′ r p =
+          write-done out′ r q =
+              let p : Put (text (settingsOf s) turns) out 0 out′ r = rw (parted (settingsOf s) turns) q in
               let e : refusal (settingsOf s) turns roomy ≡ 0 = accepts (settingsOf s) turns roomy write-accepted (le-leb _ (length out) (omega (arith, g .is))) in
               let c : r ≡ length (text (settingsOf s) turns) = omega (arith, p .place) in
               record { is = rw (e, c, p .is, at-front out (text (settingsOf s) turns)) }

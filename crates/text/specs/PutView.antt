@@ -3,9 +3,10 @@ use Prim.Native.Nat.{ℕ, _+_, _≤_}
 use mathlib.Core.Path.{_≡_}
 use mathlib.Core.List.{List, [], _∷_, _++_}
 use lib.ListN.{length, take, drop}
+use Rattle.rules.specs.Settings.{Settings}
 use Rattle.rules.specs.Machines.{bytes, numbered}
 use Rattle.rules.specs.Rule.{feed}
-use Rattle.rules.specs.File.{fieldText}
+use Rattle.rules.specs.File.{fieldText, rowsText, turnsText}
 
 -- d with t from the place at on
 unfoldable pub over : List ℕ → ℕ → List ℕ → List ℕ
@@ -20,17 +21,29 @@ pub record Put (t d : List ℕ) (at : ℕ) (d′ : List ℕ) (r : ℕ) : Type 0 
   pub place : r ≡ at + length t
   pub is : d′ ≡ over d at t
 
--- ---- the lines before the processors'
+-- ---- the lines, as they are put
 
--- the name, and a line feed
-unfoldable pub nameText : (algo : ℕ) → List ℕ
-nameText algo = numbered algo .name ++ feed ∷ []
+unfoldable pub algoText : (algo : ℕ) → List ℕ
+algoText algo = bytes "algo=" ++ (numbered algo .name ++ feed ∷ [])
 
-unfoldable pub sizesText : (procs home : ℕ) → List ℕ
-sizesText procs home = fieldText (bytes "procs=") procs ++ fieldText (bytes "home=") home
+unfoldable pub lineText : (label : List ℕ) (n : ℕ) → List ℕ
+lineText label n = fieldText label n
 
-unfoldable pub limitsText : (ticket budget : ℕ) → List ℕ
-limitsText ticket budget = fieldText (bytes "ticket=") ticket ++ fieldText (bytes "budget=") budget
+abbrev pub sizesText : (procs home : ℕ) → List ℕ
+sizesText procs home = lineText (bytes "procs=") procs ++ lineText (bytes "home=") home
 
+abbrev pub limitsText : (ticket budget : ℕ) → List ℕ
+limitsText ticket budget = lineText (bytes "ticket=") ticket ++ lineText (bytes "budget=") budget
+
+-- the lines before the processors'
 unfoldable pub frontText : (algo procs home ticket budget : ℕ) → List ℕ
-frontText algo procs home ticket budget = bytes "algo=" ++ (nameText algo ++ (sizesText procs home ++ limitsText ticket budget))
+frontText algo procs home ticket budget = algoText algo ++ (sizesText procs home ++ limitsText ticket budget)
+
+unfoldable pub turnsLine : List ℕ → List ℕ
+turnsLine ts = bytes "turns=" ++ turnsText ts
+
+-- the whole file, in three parts
+abbrev pub fileText : Settings → List ℕ → List ℕ
+fileText s ts =
+    frontText (s .algo) (s .procs) (s .home) (s .ticket) (s .budget)
+    ++ (rowsText (s .procs) 0 (s .rounds) (s .hold) ++ turnsLine ts)

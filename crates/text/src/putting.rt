@@ -9,12 +9,12 @@ ghost use mathlib.Core.Bool.{true};
 ghost use Prim.Native.Nat.{_≤_};
 ghost use mathlib.Core.List.{_++_, _∷_, []};
 ghost use Rattle.rules.specs.Machines.{numbered, known};
-ghost use Rattle.rules.specs.File.{decimal, fieldText, entriesText, rowsText, turnsText, text};
+ghost use Rattle.rules.specs.File.{decimal, entriesText, rowsText, turnsText};
 ghost use Rattle.rules.proofs.Accepted.{Accepted};
 ghost use Rattle.settings.specs.View.{settingsOf};
-ghost use Rattle.text.specs.PutView.{Room, Put, nameText, sizesText, limitsText, frontText};
+ghost use Rattle.text.specs.PutView.{Room, Put, algoText, lineText, sizesText, limitsText, frontText, turnsLine, fileText};
 
-pub(crate) fn put(out: &mut [u8], at: usize, t: &[u8]) -> usize
+fn put(out: &mut [u8], at: usize, t: &[u8]) -> usize
     requires { ⌜ Room (now t) (now out) at ⌝ }
     ensures { λ r. ⌜ Put (now (t .entry)) (now (out .entry)) at (now (out .exit)) r ⌝ }
 {
@@ -56,9 +56,9 @@ fn put_number(out: &mut [u8], at: usize, n: usize, separator: u8) -> usize
 }
 
 // A line of a label and a number.
-pub(crate) fn put_field(out: &mut [u8], at: usize, label: &[u8], n: usize) -> usize
-    requires { ⌜ Room (fieldText (now label) n) (now out) at ⌝ }
-    ensures { λ r. ⌜ Put (fieldText (now (label .entry)) n) (now (out .entry)) at (now (out .exit)) r ⌝ }
+fn put_field(out: &mut [u8], at: usize, label: &[u8], n: usize) -> usize
+    requires { ⌜ Room (lineText (now label) n) (now out) at ⌝ }
+    ensures { λ r. ⌜ Put (lineText (now (label .entry)) n) (now (out .entry)) at (now (out .exit)) r ⌝ }
 {
     let p = put(out, at, label);
     put_number(out, p, n, b'\n')
@@ -76,7 +76,7 @@ fn put_entries(out: &mut [u8], at: usize, i: usize, rounds: usize, hold: usize) 
 }
 
 // The processors' lines.
-pub(crate) fn put_rows(
+fn put_rows(
     out: &mut [u8],
     at: usize,
     procs: usize,
@@ -97,7 +97,7 @@ pub(crate) fn put_rows(
 }
 
 // The turns, or nothing, and a line feed.
-pub(crate) fn put_turns(out: &mut [u8], at: usize, turns: &[u16]) -> usize
+fn put_items(out: &mut [u8], at: usize, turns: &[u16]) -> usize
     requires { ⌜ Room (turnsText (now turns)) (now out) at ⌝ }
     ensures { λ r. ⌜ Put (turnsText (now (turns .entry))) (now (out .entry)) at (now (out .exit)) r ⌝ }
 {
@@ -115,17 +115,25 @@ pub(crate) fn put_turns(out: &mut [u8], at: usize, turns: &[u16]) -> usize
     put_number(out, p, turns[last] as usize, b'\n')
 }
 
-// The name, and a line feed.
-fn put_name(out: &mut [u8], at: usize, algo: u16) -> usize
+// The line of the turns.
+fn put_turns(out: &mut [u8], at: usize, turns: &[u16]) -> usize
+    requires { ⌜ Room (turnsLine (now turns)) (now out) at ⌝ }
+    ensures { λ r. ⌜ Put (turnsLine (now (turns .entry))) (now (out .entry)) at (now (out .exit)) r ⌝ }
+{
+    let p = put(out, at, b"turns=");
+    put_items(out, p, turns)
+}
+
+fn put_algo(out: &mut [u8], at: usize, algo: u16) -> usize
     requires { ⌜ known (numbered algo) ≡ true ⌝ }
-    requires { ⌜ Room (nameText algo) (now out) at ⌝ }
-    ensures { λ r. ⌜ Put (nameText algo) (now (out .entry)) at (now (out .exit)) r ⌝ }
+    requires { ⌜ Room (algoText algo) (now out) at ⌝ }
+    ensures { λ r. ⌜ Put (algoText algo) (now (out .entry)) at (now (out .exit)) r ⌝ }
 {
     match algo {
-        TICKET => put(out, at, b"ticket\n"),
-        MCS => put(out, at, b"mcs\n"),
-        CENTRAL => put(out, at, b"central\n"),
-        _ => put(out, at, b"dissem\n"),
+        TICKET => put(out, at, b"algo=ticket\n"),
+        MCS => put(out, at, b"algo=mcs\n"),
+        CENTRAL => put(out, at, b"algo=central\n"),
+        _ => put(out, at, b"algo=dissem\n"),
     }
 }
 
@@ -151,22 +159,20 @@ fn put_front(out: &mut [u8], at: usize, s: Settings) -> usize
     requires { ⌜ Room (frontText (s .algo) (s .procs) (s .home) (s .ticket) (s .budget)) (now out) at ⌝ }
     ensures { λ r. ⌜ Put (frontText (s .algo) (s .procs) (s .home) (s .ticket) (s .budget)) (now (out .entry)) at (now (out .exit)) r ⌝ }
 {
-    let p = put(out, at, b"algo=");
-    let q = put_name(out, p, s.algo);
-    let r = put_sizes(out, q, s.procs, s.home);
-    put_limits(out, r, s.ticket, s.budget)
+    let p = put_algo(out, at, s.algo);
+    let q = put_sizes(out, p, s.procs, s.home);
+    put_limits(out, q, s.ticket, s.budget)
 }
 
 // The whole file.
 pub(crate) fn put_file(out: &mut [u8], s: Settings, schedule: &[u16]) -> usize
     requires { ⌜ Accepted (settingsOf s) (now schedule) ⌝ }
-    requires { ⌜ Room (text (settingsOf s) (now schedule)) (now out) 0 ⌝ }
-    ensures { λ r. ⌜ Put (text (settingsOf s) (now (schedule .entry))) (now (out .entry)) 0 (now (out .exit)) r ⌝ }
+    requires { ⌜ Room (fileText (settingsOf s) (now schedule)) (now out) 0 ⌝ }
+    ensures { λ r. ⌜ Put (fileText (settingsOf s) (now (schedule .entry))) (now (out .entry)) 0 (now (out .exit)) r ⌝ }
 {
     let rounds = s.rounds;
     let hold = s.hold;
     let p = put_front(out, 0, s);
     let q = put_rows(out, p, s.procs as usize, rounds, hold);
-    let r = put(out, q, b"turns=");
-    put_turns(out, r, schedule)
+    put_turns(out, q, schedule)
 }
