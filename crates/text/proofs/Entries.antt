@@ -19,7 +19,8 @@ use Rattle.machine.specs.RunView.{recordOf, answerOf}
 use Rattle.text.specs.declared.reading.ReadAnswer.{ReadAnswer}
 use Rattle.text.specs.ReadView as read-view
 use Rattle.text.specs.ReadView.{ReadIs}
-use Rattle.text.specs.WriteView.{Written, writtenOf, WriteIs}
+use Rattle.text.specs.declared.writing.Written.{Written}
+use Rattle.text.specs.WriteView.{WriteIs}
 use Rattle.text.specs.Entries.{FileRun, said, Demand, Entries}
 
 -- ---- the round trips

@@ -16,7 +16,8 @@ use Rattle.machine.specs.declared.table.Record.{Record}
 use Rattle.machine.specs.declared.table.Answer.{Answer}
 use Rattle.text.specs.declared.reading.ReadAnswer.{ReadAnswer}
 use Rattle.text.specs.ReadView.{ReadIs}
-use Rattle.text.specs.WriteView.{Written, WriteIs}
+use Rattle.text.specs.declared.writing.Written.{Written}
+use Rattle.text.specs.WriteView.{WriteIs}
 
 -- a file that read accepts and that names a lock, and an accepted run of what it says
 pub record FileRun : Type 0 where

@@ -4,14 +4,11 @@ use mathlib.Core.Path.{_≡_}
 use mathlib.Core.List.{List}
 use Rattle.rules.specs.Settings.{Settings}
 use Rattle.rules.specs.Calls.{WriteAnswer, writing}
+use Rattle.text.specs.declared.writing.Written.{Written}
 
-pub record Written : Type 0 where
-  pub number : ℕ
-  pub count : ℕ
+abbrev pub answerOf : Written → WriteAnswer
+answerOf r = record { number = r .number; count = r .count }
 
-abbrev pub writtenOf : Written → WriteAnswer
-writtenOf w = record { number = w .number; count = w .count }
-
--- the answer and the lent bytes, whole, are those of the rules
-pub record WriteIs (s : Settings) (turns out out′ : List ℕ) (w : Written) : Type 0 where
-  pub is : writing s turns out ≡ record { answer = writtenOf w; out = out′ }
+-- the answer and the buffer, whole, are those of the rules
+pub record WriteIs (s : Settings) (turns out out′ : List ℕ) (r : Written) : Type 0 where
+  pub is : writing s turns out ≡ record { answer = answerOf r; out = out′ }
