@@ -16,11 +16,11 @@ use Rattle.laws.proofs.All.{all-laws}
 use Rattle.settings.specs.View.{settingsOf}
 use Rattle.settings.specs.declared.Settings.{Settings}
 use Rattle.machine.specs.RunView.{recordOf, answerOf}
-use Rattle.text.specs.declared.reading.ReadAnswer.{ReadAnswer}
-use Rattle.text.specs.ReadView as read-view
-use Rattle.text.specs.ReadView.{ReadIs}
-use Rattle.text.specs.declared.writing.Written.{Written}
-use Rattle.text.specs.WriteView.{WriteIs}
+use Rattle.reader.specs.declared.reading.ReadAnswer.{ReadAnswer}
+use Rattle.reader.specs.ReadView as read-view
+use Rattle.reader.specs.ReadView.{ReadIs}
+use Rattle.writer.specs.declared.writing.Written.{Written}
+use Rattle.writer.specs.WriteView.{WriteIs}
 use Rattle.text.specs.Entries.{FileRun, said, Demand, Entries}
 
 -- ---- the round trips

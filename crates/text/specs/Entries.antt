@@ -14,10 +14,10 @@ use Rattle.settings.specs.declared.Settings.{Settings}
 use Rattle.machine.specs.RunView.{recordOf, Ran}
 use Rattle.machine.specs.declared.table.Record.{Record}
 use Rattle.machine.specs.declared.table.Answer.{Answer}
-use Rattle.text.specs.declared.reading.ReadAnswer.{ReadAnswer}
-use Rattle.text.specs.ReadView.{ReadIs}
-use Rattle.text.specs.declared.writing.Written.{Written}
-use Rattle.text.specs.WriteView.{WriteIs}
+use Rattle.reader.specs.declared.reading.ReadAnswer.{ReadAnswer}
+use Rattle.reader.specs.ReadView.{ReadIs}
+use Rattle.writer.specs.declared.writing.Written.{Written}
+use Rattle.writer.specs.WriteView.{WriteIs}
 
 -- a file that read accepts and that names a lock, and an accepted run of what it says
 pub record FileRun : Type 0 where

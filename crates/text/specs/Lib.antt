@@ -1,6 +1,1 @@
-pub mod Places
-pub mod ReadView
-pub mod PutView
-pub mod LengthView
-pub mod WriteView
 pub mod Entries

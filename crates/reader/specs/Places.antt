@@ -1,0 +1,108 @@
+-- What the answers of the reading functions mean: for every case of each enum its value, what is left of the file and the place of that; or the number of refusal and its place.
+use Prim.Native.Nat.{ℕ, _-_, _≤_, _<_}
+use mathlib.Core.List.{List}
+use lib.ListN.{length, take, drop}
+use Rattle.rules.specs.Settings.{Settings}
+use Rattle.rules.specs.Bounds.{mostProcs, mostTicket, mostBudget}
+use Rattle.rules.specs.Machines.{bytes}
+use Rattle.rules.specs.Rule.{Got, ok, fault, Rule, _>>=_, give}
+use Rattle.rules.specs.Calls.{over}
+use Rattle.rules.specs.File.{Front, field, turns, whole}
+use Rattle.reader.specs.declared.place.Step.{Step}
+use Rattle.reader.specs.declared.place.Step.the-variants.{At, No}
+use Rattle.reader.specs.declared.place.Numeral.{Numeral}
+use Rattle.reader.specs.declared.place.Numeral.the-variants.{Read, Bad}
+use Rattle.reader.specs.declared.place.Value.{Value}
+use Rattle.reader.specs.declared.place.Value.the-variants.{Is, Not}
+use Rattle.reader.specs.declared.lines.Pair.{Pair}
+use Rattle.reader.specs.declared.lines.Pair.the-variants.{Of, Wrong}
+use Rattle.reader.specs.declared.lines.Rows.{Rows}
+use Rattle.reader.specs.declared.front.Head.{Head}
+use Rattle.reader.specs.declared.front.Opened.{Opened}
+use Rattle.reader.specs.declared.front.Opened.the-variants.{Good, Faulty}
+
+abbrev pub stepOf : List ℕ → Step → Got (Unit {0})
+stepOf s (At at) = ok tt (drop at s) at
+stepOf s (No n p) = fault n p
+
+abbrev pub numeralOf : List ℕ → Numeral → Got (ℕ × ℕ)
+numeralOf s (Read n x at) = ok (n, x) (drop at s) at
+numeralOf s (Bad n p) = fault n p
+
+abbrev pub valueOf : List ℕ → Value → Got ℕ
+valueOf s (Is n at) = ok n (drop at s) at
+valueOf s (Not n p) = fault n p
+
+-- ---- a name
+
+-- the bytes from a up to e
+abbrev pub part : List ℕ → ℕ → ℕ → List ℕ
+part s a e = take (e - a) (drop a s)
+
+-- the letters from a on, without the line feed
+abbrev pub wordOf : List ℕ → ℕ → Step → Got (List ℕ)
+wordOf s a (At at) = ok (part s a (at - 1)) (drop at s) at
+wordOf s a (No n p) = fault n p
+
+-- a step goes forward from a, and stays within n bytes
+abbrev pub passed : ℕ → ℕ → Step → Type 0
+passed n a (At at) = (a < at) × (at ≤ n)
+passed n a (No m p) = Unit {0}
+
+-- ---- the first five lines
+
+abbrev pub headOf : Head → Front
+headOf h = record { algo = h .algo; procs = h .procs; home = h .home; ticket = h .ticket; budget = h .budget }
+
+abbrev pub frontOf : List ℕ → Opened → Got Front
+frontOf s (Good h at) = ok (headOf h) (drop at s) at
+frontOf s (Faulty n p) = fault n p
+
+-- the lines from `ticket=` on, and from `procs=` on
+abbrev pub limits : ℕ → ℕ → ℕ → Rule Front
+limits algo procs home = do
+  ticket ← field (bytes "ticket=") 0 mostTicket
+  budget ← field (bytes "budget=") 0 mostBudget
+  give (record { algo = algo; procs = procs; home = home; ticket = ticket; budget = budget })
+
+abbrev pub sizes : ℕ → Rule Front
+sizes algo = do
+  procs ← field (bytes "procs=") 1 mostProcs
+  home ← field (bytes "home=") 0 (procs - 1)
+  limits algo procs home
+
+-- ---- the processors' lines
+
+abbrev pub pairOf : List ℕ → Pair → Got (ℕ × ℕ)
+pairOf s (Of rounds hold at) = ok (rounds, hold) (drop at s) at
+pairOf s (Wrong n p) = fault n p
+
+abbrev pub rowsAt : List ℕ → List ℕ → List ℕ → Step → Got (List ℕ × List ℕ)
+rowsAt s rounds hold (At at) = ok (rounds, hold) (drop at s) at
+rowsAt s rounds hold (No n p) = fault n p
+
+abbrev pub rowsOf : List ℕ → Rows → Got (List ℕ × List ℕ)
+rowsOf s r = rowsAt s (r .rounds) (r .hold) (r .step)
+
+-- ---- the turns
+
+-- how many there are
+abbrev pub counted : Got (List ℕ) → Got ℕ
+counted (ok ts left at) = ok (length ts) left at
+counted (fault n p) = fault n p
+
+-- accepted, and no more than n
+unfoldable pub fitsIn : Got (List ℕ) → ℕ → Type 0
+fitsIn (ok ts left at) n = length ts ≤ n
+fitsIn (fault m p) n = ⊥
+
+-- the schedule with the turns at its front, where they were accepted
+abbrev pub filled : Got (List ℕ) → List ℕ → List ℕ
+filled (ok ts left at) schedule = over ts schedule
+filled (fault n p) schedule = schedule
+
+-- the turns of these settings, and nothing after them
+unfoldable pub ending : Settings → Rule (Settings × List ℕ)
+ending s = whole (do
+  ts ← turns (s .procs)
+  give (s, ts))

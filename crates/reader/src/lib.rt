@@ -1,0 +1,11 @@
+// The settings file, read into the settings record and the schedule.
+mod front;
+mod lines;
+mod name;
+mod number;
+mod place;
+mod reading;
+mod schedule;
+
+pub use reading::ReadAnswer;
+pub use reading::read;

@@ -1,0 +1,6 @@
+mod Puts
+mod Left
+mod Counted
+mod Filed
+mod Writes
+pub mod OneOutcome

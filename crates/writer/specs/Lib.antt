@@ -1,0 +1,3 @@
+pub mod PutView
+pub mod LengthView
+pub mod WriteView

@@ -1,0 +1,99 @@
+// How many bytes the parts of the file have.
+use settings::CENTRAL;
+use settings::MCS;
+use settings::MOST_PROCS;
+use settings::Settings;
+use settings::TICKET;
+ghost use mathlib.Core.Path.{_≡_};
+ghost use mathlib.Core.Bool.{true};
+ghost use Prim.Native.Nat.{_≤_};
+ghost use lib.ListN.{length};
+ghost use Rattle.rules.specs.Machines.{numbered, known};
+ghost use Rattle.rules.specs.File.{decimal, entriesText, rowsText, turnsText, text};
+ghost use Rattle.rules.proofs.Accepted.{Accepted};
+ghost use Rattle.settings.specs.View.{settingsOf};
+ghost use Rattle.writer.specs.LengthView.{Long};
+
+// The labels and line feeds of the lines that are in every file.
+const FIXED: usize = 41;
+
+// How many digits a number has.
+pub(crate) fn digits_of(n: u16) -> usize
+    ensures { λ r. ⌜ Long (decimal n) 5 r ⌝ }
+{
+    if n < 10 {
+        return 1;
+    }
+    if n < 100 {
+        return 2;
+    }
+    if n < 1000 {
+        return 3;
+    }
+    if n < 10000 {
+        return 4;
+    }
+    5
+}
+
+pub(crate) fn name_length(algo: u16) -> usize
+    requires { ⌜ known (numbered algo) ≡ true ⌝ }
+    ensures { λ r. ⌜ Long (numbered algo .name) 8 r ⌝ }
+{
+    match algo {
+        TICKET => 6,
+        MCS => 3,
+        CENTRAL => 7,
+        _ => 6,
+    }
+}
+
+// Processor i's line.
+fn entries_length(i: u16, rounds: u16, hold: u16) -> usize
+    ensures { λ r. ⌜ Long (entriesText i rounds hold) 20 r ⌝ }
+{
+    digits_of(i) + digits_of(rounds) + digits_of(hold) + 4
+}
+
+pub(crate) fn rows_length(procs: usize, rounds: [u16; MOST_PROCS], hold: [u16; MOST_PROCS]) -> usize
+    requires { ⌜ procs ≤ 64 ⌝ }
+    ensures { λ r. ⌜ Long (rowsText procs 0 rounds hold) 1280 r ⌝ }
+{
+    let mut i: usize = 0;
+    let mut total: usize = 0;
+    while i < procs {
+        total += entries_length(i as u16, rounds[i], hold[i]);
+        i += 1;
+    }
+    total
+}
+
+// A separator follows each turn. Where there is no turn, there is a line feed.
+pub(crate) fn turns_length(turns: &[u16]) -> usize
+    requires { ⌜ length (now turns) ≤ 16384 ⌝ }
+    ensures { λ r. ⌜ Long (turnsText (now (turns .entry))) 98304 r ⌝ }
+{
+    if turns.len() == 0 {
+        return 1;
+    }
+    let mut i: usize = 0;
+    let mut total: usize = 0;
+    while i < turns.len() {
+        total += digits_of(turns[i]) + 1;
+        i += 1;
+    }
+    total
+}
+
+pub(crate) fn file_length(s: Settings, schedule: &[u16]) -> usize
+    requires { ⌜ Accepted (settingsOf s) (now schedule) ⌝ }
+    ensures { λ r. ⌜ Long (text (settingsOf s) (now (schedule .entry))) 100000 r ⌝ }
+{
+    let rounds = s.rounds;
+    let hold = s.hold;
+    let sizes = digits_of(s.procs) + digits_of(s.home);
+    let limits = digits_of(s.ticket as u16) + digits_of(s.budget as u16);
+    let rows = rows_length(s.procs as usize, rounds, hold);
+    let turns = turns_length(schedule);
+    name_length(s.algo) + sizes + limits + rows + turns + FIXED
+}

@@ -1,0 +1,7 @@
+// The settings file, written from the settings record and the schedule.
+mod lengths;
+mod putting;
+mod writing;
+
+pub use writing::Written;
+pub use writing::write;
