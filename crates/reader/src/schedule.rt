@@ -35,7 +35,7 @@ pub(crate) fn count(file: &[u8], procs: usize, at: usize) -> Value
                 if c == MOST_TURNS {
                     return Value::Not(TOO_MANY, p);
                 }
-                if procs <= v {
+                if v >= procs {
                     return Value::Not(STRAY, p);
                 }
                 c += 1;
