@@ -15,9 +15,9 @@ settings-back s = record { algo = s .algo; procs = s .procs; home = s .home; tic
 abbrev answer-back : calls.ReadAnswer → ReadAnswer
 answer-back a = record { number = a .number; place = a .place; settings = settings-back (a .settings); count = a .count }
 
-pub one-reading : (file schedule after₁ after₂ : List ℕ) (a a′ : ReadAnswer) → ReadIs file schedule after₁ a → ReadIs file schedule after₂ a′
+pub one-outcome : (file schedule after₁ after₂ : List ℕ) (a a′ : ReadAnswer) → ReadIs file schedule after₁ a → ReadIs file schedule after₂ a′
     → (a ≡ a′) × (after₁ ≡ after₂)
-one-reading file schedule after₁ after₂ a a′ r r′ = (ap (λ x. answer-back (x .answer)) same, ap (λ x. x .schedule) same)
+one-outcome file schedule after₁ after₂ a a′ r r′ = (ap (λ x. answer-back (x .answer)) same, ap (λ x. x .schedule) same)
   where
     left : calls.Reading
     left = record { answer = answerOf a; schedule = after₁ }

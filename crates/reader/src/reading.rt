@@ -12,6 +12,7 @@ use crate::schedule::fill;
 use settings::ACCEPTED;
 use settings::MOST_PROCS;
 use settings::Settings;
+use settings::TOO_SHORT;
 ghost use mathlib.Core.Path.{_≡_};
 ghost use Prim.Native.Nat.{_≤_};
 ghost use lib.ListN.{drop};
@@ -20,9 +21,6 @@ ghost use Rattle.rules.specs.File.{rest, whole};
 ghost use Rattle.settings.specs.View.{settingsOf};
 ghost use Rattle.reader.specs.Places.{headOf, ending};
 ghost use Rattle.reader.specs.ReadView.{answerOf, refused, GotIs, ReadIs};
-
-// The schedule is shorter than the count of turns.
-const TOO_SHORT: u8 = 6;
 
 // The number of refusal and its place; or 0, place 0, the settings and the count of turns.
 pub struct ReadAnswer {

@@ -39,6 +39,8 @@ pub const STRAY: u8 = 4;
 
 pub const TOO_MANY: u8 = 5;
 
+pub const TOO_SHORT: u8 = 6;
+
 // The types are wider than the bounds, so that every refusal can be given.
 pub struct Settings {
     pub algo: u16,

@@ -1,22 +1,19 @@
 -- Laws of the lengths of the file's parts.
-use Prim.Native.Nat.{ℕ, zero, suc, _+_, _-_, _*_, _/_, _≤_, _<_}
-use mathlib.Core.Path.{_≡_, refl, ap, sym, _∙_, subst}
+use Prim.Native.Nat.{ℕ, suc, _+_, _-_, _*_, _/_, _≤_, _<_}
+use mathlib.Core.Path.{_≡_, refl, ap, sym, _∙_}
 use mathlib.Core.Logic.{_≢_}
-use mathlib.Core.Bool.{true}
 use mathlib.Core.List.{List, [], _∷_, _++_}
 use lib.ListN.{length, getD, drop, length-append, drop-of-length-le}
 use mir.Syntax.{w16}
 use mir.Val.{Fits}
-use native.Mathlib.Decide.{ℕ-discrete}
 use native.Mathlib.Omega.{arith}
+use Rattle.rules.specs.Bounds.{mostProcs, mostTurns}
 use Rattle.rules.specs.Settings.{Settings, entry}
-use Rattle.rules.specs.Machines.{numbered, known}
 use Rattle.rules.specs.Rule.{feed, comma}
-use Rattle.rules.specs.File.{decimal, label, entriesText, rowsText, turnsText, text}
-use Rattle.rules.proofs.Store.{false-true}
-use Rattle.rules.proofs.Known.{unknown-number}
+use Rattle.rules.specs.File.{decimal, entriesText, rowsText, turnsText, text}
 use Rattle.laws.proofs.Decimal.{decimal-one, decimal-long}
 use Rattle.writer.specs.LengthView.{Long}
+use Rattle.writer.specs.PutView.{NameIs, nameText}
 use Rattle.writer.proofs.Left.{drop-next, none}
 
 -- ---- a number
@@ -55,32 +52,6 @@ module _ (n : ℕ) where
   pub digits-5 : 10000 ≤ n → Fits w16 n → Long (decimal n) 5 5
   digits-5 l f = record { is = sym (five-digits n l (omega (arith, f .fits))); few = omega arith }
 
--- ---- a name
-
--- the fourth machine is the only one left
-pub fourth : (algo : ℕ) → known (numbered algo) ≡ true → algo ≢ 1 → algo ≢ 2 → algo ≢ 3 → algo ≡ 4
-fourth algo e a b c = go (ℕ-discrete algo 4)
-  where
-    go : Dec (algo ≡ 4) → algo ≡ 4
-    go (yes d) = d
-    go (no d) = absurd (false-true (sym (unknown-number algo a b c d) ∙ e))
-
-abbrev NameIs : ℕ → ℕ → Type 0
-NameIs algo r = Long (numbered algo .name) 8 r
-
-module _ (algo : ℕ) where
-  pub name-ticket : algo ≡ 1 → NameIs algo 6
-  name-ticket e = rw e (record { is = refl; few = omega arith })
-
-  pub name-mcs : algo ≡ 2 → NameIs algo 3
-  name-mcs e = rw e (record { is = refl; few = omega arith })
-
-  pub name-central : algo ≡ 3 → NameIs algo 7
-  name-central e = rw e (record { is = refl; few = omega arith })
-
-  pub name-dissem : known (numbered algo) ≡ true → algo ≢ 1 → algo ≢ 2 → algo ≢ 3 → NameIs algo 6
-  name-dissem k a b c = rw (fourth algo k a b c) (record { is = refl; few = omega arith })
-
 -- ---- the processors' lines
 
 line-length : (l a b : List ℕ) (x y : ℕ) → length (112 ∷ ((l ++ 61 ∷ []) ++ ((a ++ x ∷ []) ++ (b ++ y ∷ [])))) ≡ length l + length a + length b + 4
@@ -104,7 +75,7 @@ module _ (procs : ℕ) (rounds hold : List ℕ) where
       record { sum = rw z (omega arith) }
 
   module _ (t : List ℕ) (total i : ℕ) (l : Counted t total (rowsText (procs - i) i rounds hold)) where
-    pub rows-long : procs ≤ 64 → total ≤ i * 20 → i ≤ procs → procs ≤ i → Long t 1280 total
+    pub rows-long : procs ≤ mostProcs → total ≤ i * 20 → i ≤ procs → procs ≤ i → Long t 1280 total
     unfolding rowsText
     rows-long m f g h =
         let z : procs - i ≡ 0 = omega arith in
@@ -148,7 +119,7 @@ module _ (ts : List ℕ) (total i : ℕ) (b : Before ts total i) where
       let e : total + turnBytes (getD ts i 0 ∷ drop (i + 1) ts) ≡ turnBytes ts = rw (drop-next ts i h) at (b .sum) in
       record { sum = omega (arith, e, a .is) }
 
-  pub turns-long : length ts ≢ 0 → length ts ≤ 16384 → total ≤ i * 6 → i ≤ length ts → length ts ≤ i → Long (turnsText ts) 98304 total
+  pub turns-long : length ts ≢ 0 → length ts ≤ mostTurns → total ≤ i * 6 → i ≤ length ts → length ts ≤ i → Long (turnsText ts) 98304 total
   turns-long z m f g h = go ts z (rw (drop-of-length-le ts {i = i} h) at (b .sum))
     where
       go : (ts : List ℕ) → length ts ≢ 0 → total + turnBytes [] ≡ turnBytes ts → Long (turnsText ts) 98304 total
@@ -157,12 +128,12 @@ module _ (ts : List ℕ) (total i : ℕ) (b : Before ts total i) where
 
 -- ---- the whole file
 
-pub file-long : (s : Settings) (ts : List ℕ) (n a b c d l t : ℕ) → Long (numbered (s .algo) .name) 8 n
+pub file-long : (s : Settings) (ts : List ℕ) (n a b c d l t : ℕ) → (letters : List ℕ) → NameIs (nameText (s .algo)) letters n
     → Long (decimal (s .procs)) 5 a → Long (decimal (s .home)) 5 b → Long (decimal (s .ticket)) 5 c → Long (decimal (s .budget)) 5 d
     → Long (rowsText (s .procs) 0 (s .rounds) (s .hold)) 1280 l → Long (turnsText ts) 98304 t
     → Long (text s ts) 100000 (n + (a + b) + (c + d) + l + t + 41)
-unfolding text
-file-long s ts n a b c d l t N A B C D L T = record {
-  is = simp length-append (omega (arith, N .is, A .is, B .is, C .is, D .is, L .is, T .is));
+unfolding text nameText
+file-long s ts n a b c d l t letters N A B C D L T = record {
+  is = simp length-append (omega (arith, N .long, A .is, B .is, C .is, D .is, L .is, T .is));
   few = omega (arith, N .few, A .few, B .few, C .few, D .few, L .few, T .few);
 }

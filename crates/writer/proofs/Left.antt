@@ -1,9 +1,9 @@
 -- Laws of putting line after line: what is left to put, and the rest of it once a part is put.
-use Prim.Native.Nat.{ℕ, zero, suc, _+_, _-_, _≤_, _<_}
+use Prim.Native.Nat.{ℕ, suc, _+_, _-_, _≤_, _<_}
 use mathlib.Core.Path.{_≡_, refl, ap, sym, _∙_, subst}
 use mathlib.Core.Logic.{_≢_}
 use mathlib.Core.List.{List, [], _∷_, _++_}
-use lib.ListN.{length, getD, take, drop, take-append-drop, drop-of-length-le}
+use lib.ListN.{length, getD, drop, take-append-drop, drop-of-length-le}
 use lib.Seq.{drop-cons}
 use native.Mathlib.Numerals.{add-one}
 use native.Mathlib.Nat.{add-zero}
@@ -11,8 +11,8 @@ use native.Mathlib.Omega.{arith}
 use Rattle.rules.specs.Settings.{entry}
 use Rattle.rules.specs.Machines.{bytes}
 use Rattle.rules.specs.Rule.{feed, comma}
-use Rattle.rules.specs.File.{decimal, entriesText, rowsText, turnsText}
-use Rattle.writer.specs.PutView.{over, Room, Put, turnsLine}
+use Rattle.rules.specs.File.{decimal, rowsText, turnsText}
+use Rattle.writer.specs.PutView.{over, Room, Put, labelText, processorText, turnsLine}
 use Rattle.writer.proofs.Puts.{room-first, room-next, put-then}
 
 -- of t, which is put over d₀ at a place, u is left, and goes to p
@@ -49,18 +49,18 @@ module _ (procs : ℕ) (rounds hold : List ℕ) where
         m .done d p (put-nothing d p)
 
     module _ (h : i < procs) where
-      opened : Left t d₀ at (entriesText i (entry rounds i) (entry hold i) ++ rowsText (procs - (i + 1)) (i + 1) rounds hold) d p
-      unfolding rowsText
+      opened : Left t d₀ at (processorText i (entry rounds i) (entry hold i) ++ rowsText (procs - (i + 1)) (i + 1) rounds hold) d p
+      unfolding rowsText labelText
       opened =
           let z : procs - i ≡ suc (procs - (i + 1)) = omega arith in
           subst (λ (k : ℕ). Left t d₀ at (rowsText k i rounds hold) d p) z l
 
-      pub rows-room : Room (entriesText i (entry rounds i) (entry hold i)) d p
-      rows-room = room-first (entriesText i (entry rounds i) (entry hold i)) _ d p (opened .room)
+      pub rows-room : Room (processorText i (entry rounds i) (entry hold i)) d p
+      rows-room = room-first (processorText i (entry rounds i) (entry hold i)) _ d p (opened .room)
 
-      pub rows-next : (d₁ : List ℕ) (q : ℕ) → Put (entriesText i (entry rounds i) (entry hold i)) d p d₁ q → length d₁ ≡ length d
+      pub rows-next : (d₁ : List ℕ) (q : ℕ) → Put (processorText i (entry rounds i) (entry hold i)) d p d₁ q → length d₁ ≡ length d
           → Left t d₀ at (rowsText (procs - (i + 1)) (i + 1) rounds hold) d₁ q
-      rows-next = left-next t d₀ at (entriesText i (entry rounds i) (entry hold i)) _ d p opened
+      rows-next = left-next t d₀ at (processorText i (entry rounds i) (entry hold i)) _ d p opened
 
 -- ---- the turns
 

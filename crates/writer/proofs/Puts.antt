@@ -1,5 +1,5 @@
 -- Laws of putting one text after another.
-use Prim.Native.Nat.{ℕ, zero, suc, _+_, _/_, _%_, _≤_, _<_}
+use Prim.Native.Nat.{ℕ, _+_, _/_, _%_, _≤_, _<_}
 use mathlib.Core.Path.{_≡_, refl, ap, ap₂, sym, _∙_}
 use mathlib.Core.List.{List, [], _∷_, _++_, append-assoc}
 use lib.ListN.{length, getD, set, take, drop, length-append}
@@ -8,10 +8,9 @@ use native.Mathlib.Numerals.{add-one}
 use native.Mathlib.Nat.{add-assoc}
 use native.Mathlib.Omega.{arith}
 use Rattle.rules.specs.Machines.{bytes}
-use Rattle.rules.specs.Rule.{feed, comma}
-use Rattle.rules.specs.File.{decimal, entriesText}
+use Rattle.rules.specs.File.{decimal}
 use Rattle.laws.proofs.Decimal.{decimal-one, decimal-long}
-use Rattle.writer.specs.PutView.{over, Room, Put}
+use Rattle.writer.specs.PutView.{over, Room, Put, labelText}
 
 -- ---- a copy, a byte a turn
 
@@ -110,38 +109,18 @@ module _ (n : ℕ) (h : 10 ≤ n) (at : ℕ) (d : List ℕ) (l : Room (decimal n
     pub long-done : (d₂ : List ℕ) (r : ℕ) → Put ((48 + n % 10) ∷ []) d₁ p d₂ r → Put (decimal n) d at d₂ r
     long-done d₂ r b = rw (decimal-long n h) (put-then _ _ _ _ split _ _ a _ _ b)
 
--- ---- a processor's line
+-- ---- the label of a processor's line
 
-module _ (i rounds hold : ℕ) (d : List ℕ) (at : ℕ) (h : Room (entriesText i rounds hold) d at) where
-  abbrev two : List ℕ
-  two = (decimal rounds ++ comma ∷ []) ++ (decimal hold ++ feed ∷ [])
+module _ (i : ℕ) (d : List ℕ) (at : ℕ) (h : Room (labelText i) d at) where
+  pub label-first : Room (bytes "p") d at
+  unfolding labelText
+  label-first = room-first (bytes "p") (decimal i ++ bytes "=") d at h
 
-  abbrev three : List ℕ
-  three = (decimal i ++ bytes "=") ++ two
+  module _ (d₁ : List ℕ) (p : ℕ) (a : Put (bytes "p") d at d₁ p) where
+    pub label-next : length d₁ ≡ length d → Room (decimal i ++ bytes "=") d₁ p
+    unfolding labelText
+    label-next = room-next (bytes "p") (decimal i ++ bytes "=") d at h d₁ p a
 
-  pub entries-first : Room (bytes "p") d at
-  entries-first = room-first (bytes "p") three d at h
-
-  module _ (d₁ : List ℕ) (p : ℕ) (a : Put (bytes "p") d at d₁ p) (e : length d₁ ≡ length d) where
-    left-three : Room three d₁ p
-    left-three = room-next (bytes "p") three d at h d₁ p a e
-
-    pub entries-second : Room (decimal i ++ bytes "=") d₁ p
-    entries-second = room-first (decimal i ++ bytes "=") two d₁ p left-three
-
-    module _ (d₂ : List ℕ) (q : ℕ) (b : Put (decimal i ++ bytes "=") d₁ p d₂ q) (f : length d₂ ≡ length d₁) where
-      left-two : Room two d₂ q
-      left-two = room-next (decimal i ++ bytes "=") two d₁ p left-three d₂ q b f
-
-      pub entries-third : Room (decimal rounds ++ comma ∷ []) d₂ q
-      entries-third = room-first (decimal rounds ++ comma ∷ []) (decimal hold ++ feed ∷ []) d₂ q left-two
-
-      module _ (d₃ : List ℕ) (r : ℕ) (c : Put (decimal rounds ++ comma ∷ []) d₂ q d₃ r) where
-        pub entries-fourth : length d₃ ≡ length d₂ → Room (decimal hold ++ feed ∷ []) d₃ r
-        entries-fourth = room-next (decimal rounds ++ comma ∷ []) (decimal hold ++ feed ∷ []) d₂ q left-two d₃ r c
-
-        pub entries-done : (d₄ : List ℕ) (z : ℕ) → Put (decimal hold ++ feed ∷ []) d₃ r d₄ z → Put (entriesText i rounds hold) d at d₄ z
-        entries-done d₄ z g =
-            put-then (bytes "p") three d at h d₁ p a d₄ z
-            (put-then (decimal i ++ bytes "=") two d₁ p left-three d₂ q b d₄ z
-            (put-then (decimal rounds ++ comma ∷ []) (decimal hold ++ feed ∷ []) d₂ q left-two d₃ r c d₄ z g))
+    pub label-done : (d₂ : List ℕ) (r : ℕ) → Put (decimal i ++ bytes "=") d₁ p d₂ r → Put (labelText i) d at d₂ r
+    unfolding labelText
+    label-done = put-then (bytes "p") (decimal i ++ bytes "=") d at h d₁ p a

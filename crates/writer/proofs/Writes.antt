@@ -1,6 +1,6 @@
 -- Laws for the function `write`: one for each way out.
 use Prim.Native.Nat.{ℕ, _+_, _≤_, _<_}
-use mathlib.Core.Path.{_≡_, refl, ap, sym, _∙_}
+use mathlib.Core.Path.{_≡_, ap, sym, _∙_}
 use mathlib.Core.Logic.{_≢_}
 use mathlib.Core.Bool.{Bool, true, false}
 use mathlib.Core.List.{List, _++_}
@@ -10,7 +10,7 @@ use borrow.Author.Tests.{ne-eqb, le-leb, lt-leb}
 use lib.Dec.{eqb, leb}
 use lib.ListN.{length, drop}
 use Rattle.rules.specs.Memory.{pick}
-use Rattle.rules.specs.Calls.{refusal, writing, Writing}
+use Rattle.rules.specs.Calls.{refusal, writing}
 use Rattle.rules.specs.File.{text}
 use Rattle.rules.proofs.Accepted.{Accepted, accepted, accepts, refusal-room}
 use Rattle.settings.specs.declared.Settings.{Settings}

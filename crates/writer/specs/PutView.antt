@@ -5,8 +5,8 @@ use mathlib.Core.List.{List, [], _∷_, _++_}
 use lib.ListN.{length, take, drop}
 use Rattle.rules.specs.Settings.{Settings}
 use Rattle.rules.specs.Machines.{bytes, numbered}
-use Rattle.rules.specs.Rule.{feed}
-use Rattle.rules.specs.File.{fieldText, rowsText, turnsText}
+use Rattle.rules.specs.Rule.{feed, comma}
+use Rattle.rules.specs.File.{decimal, label, fieldText, rowsText, turnsText}
 
 -- d with t from the place at on
 unfoldable pub over : List ℕ → ℕ → List ℕ → List ℕ
@@ -23,8 +23,18 @@ pub record Put (t d : List ℕ) (at : ℕ) (d′ : List ℕ) (r : ℕ) : Type 0 
 
 -- ---- the lines, as they are put
 
+unfoldable pub nameText : (algo : ℕ) → List ℕ
+nameText algo = numbered algo .name
+
+-- the first count of the letters are the name
+pub record NameIs (name letters : List ℕ) (count : ℕ) : Type 0 where
+  pub is : take count letters ≡ name
+  pub long : count ≡ length name
+  pub few : count ≤ 8
+  pub within : count ≤ length letters
+
 unfoldable pub algoText : (algo : ℕ) → List ℕ
-algoText algo = bytes "algo=" ++ (numbered algo .name ++ feed ∷ [])
+algoText algo = bytes "algo=" ++ (nameText algo ++ feed ∷ [])
 
 unfoldable pub lineText : (label : List ℕ) (n : ℕ) → List ℕ
 lineText label n = fieldText label n
@@ -38,6 +48,13 @@ limitsText ticket budget = lineText (bytes "ticket=") ticket ++ lineText (bytes 
 -- the lines before the processors'
 unfoldable pub frontText : (algo procs home ticket budget : ℕ) → List ℕ
 frontText algo procs home ticket budget = algoText algo ++ (sizesText procs home ++ limitsText ticket budget)
+
+unfoldable pub labelText : (i : ℕ) → List ℕ
+labelText i = label i
+
+-- processor i's line
+abbrev pub processorText : (i rounds hold : ℕ) → List ℕ
+processorText i rounds hold = labelText i ++ ((decimal rounds ++ comma ∷ []) ++ (decimal hold ++ feed ∷ []))
 
 unfoldable pub turnsLine : List ℕ → List ℕ
 turnsLine ts = bytes "turns=" ++ turnsText ts

@@ -1,14 +1,10 @@
 // How many bytes the parts of the file have.
-use settings::CENTRAL;
-use settings::MCS;
+use crate::names::name_of;
 use settings::MOST_PROCS;
 use settings::Settings;
-use settings::TICKET;
-ghost use mathlib.Core.Path.{_≡_};
-ghost use mathlib.Core.Bool.{true};
 ghost use Prim.Native.Nat.{_≤_};
 ghost use lib.ListN.{length};
-ghost use Rattle.rules.specs.Machines.{numbered, known};
+ghost use Rattle.rules.specs.Bounds.{mostProcs, mostTurns};
 ghost use Rattle.rules.specs.File.{decimal, entriesText, rowsText, turnsText, text};
 ghost use Rattle.rules.proofs.Accepted.{Accepted};
 ghost use Rattle.settings.specs.View.{settingsOf};
@@ -18,7 +14,7 @@ ghost use Rattle.writer.specs.LengthView.{Long};
 const FIXED: usize = 41;
 
 // How many digits a number has.
-pub(crate) fn digits_of(n: u16) -> usize
+fn digits_of(n: u16) -> usize
     ensures { λ r. ⌜ Long (decimal n) 5 r ⌝ }
 {
     if n < 10 {
@@ -36,18 +32,6 @@ pub(crate) fn digits_of(n: u16) -> usize
     5
 }
 
-pub(crate) fn name_length(algo: u16) -> usize
-    requires { ⌜ known (numbered algo) ≡ true ⌝ }
-    ensures { λ r. ⌜ Long (numbered algo .name) 8 r ⌝ }
-{
-    match algo {
-        TICKET => 6,
-        MCS => 3,
-        CENTRAL => 7,
-        _ => 6,
-    }
-}
-
 // Processor i's line.
 fn entries_length(i: u16, rounds: u16, hold: u16) -> usize
     ensures { λ r. ⌜ Long (entriesText i rounds hold) 20 r ⌝ }
@@ -55,8 +39,8 @@ fn entries_length(i: u16, rounds: u16, hold: u16) -> usize
     digits_of(i) + digits_of(rounds) + digits_of(hold) + 4
 }
 
-pub(crate) fn rows_length(procs: usize, rounds: [u16; MOST_PROCS], hold: [u16; MOST_PROCS]) -> usize
-    requires { ⌜ procs ≤ 64 ⌝ }
+fn rows_length(procs: usize, rounds: [u16; MOST_PROCS], hold: [u16; MOST_PROCS]) -> usize
+    requires { ⌜ procs ≤ mostProcs ⌝ }
     ensures { λ r. ⌜ Long (rowsText procs 0 rounds hold) 1280 r ⌝ }
 {
     let mut i: usize = 0;
@@ -69,8 +53,8 @@ pub(crate) fn rows_length(procs: usize, rounds: [u16; MOST_PROCS], hold: [u16; M
 }
 
 // A separator follows each turn. Where there is no turn, there is a line feed.
-pub(crate) fn turns_length(turns: &[u16]) -> usize
-    requires { ⌜ length (now turns) ≤ 16384 ⌝ }
+fn turns_length(turns: &[u16]) -> usize
+    requires { ⌜ length (now turns) ≤ mostTurns ⌝ }
     ensures { λ r. ⌜ Long (turnsText (now (turns .entry))) 98304 r ⌝ }
 {
     if turns.len() == 0 {
@@ -89,11 +73,12 @@ pub(crate) fn file_length(s: Settings, schedule: &[u16]) -> usize
     requires { ⌜ Accepted (settingsOf s) (now schedule) ⌝ }
     ensures { λ r. ⌜ Long (text (settingsOf s) (now (schedule .entry))) 100000 r ⌝ }
 {
+    let name = name_of(s.algo);
     let rounds = s.rounds;
     let hold = s.hold;
     let sizes = digits_of(s.procs) + digits_of(s.home);
     let limits = digits_of(s.ticket as u16) + digits_of(s.budget as u16);
     let rows = rows_length(s.procs as usize, rounds, hold);
     let turns = turns_length(schedule);
-    name_length(s.algo) + sizes + limits + rows + turns + FIXED
+    name.count + sizes + limits + rows + turns + FIXED
 }

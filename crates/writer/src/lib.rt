@@ -1,5 +1,6 @@
 // The settings file, written from the settings record and the schedule.
 mod lengths;
+mod names;
 mod putting;
 mod writing;
 

@@ -1,18 +1,17 @@
 // Bytes of the file, put into a lent buffer from a place on. Each function answers the place after them.
-use settings::CENTRAL;
-use settings::MCS;
+use crate::names::name_of;
 use settings::MOST_PROCS;
 use settings::Settings;
-use settings::TICKET;
 ghost use mathlib.Core.Path.{_≡_};
 ghost use mathlib.Core.Bool.{true};
 ghost use Prim.Native.Nat.{_≤_};
 ghost use mathlib.Core.List.{_++_, _∷_, []};
+ghost use Rattle.rules.specs.Bounds.{mostProcs};
 ghost use Rattle.rules.specs.Machines.{numbered, known};
-ghost use Rattle.rules.specs.File.{decimal, entriesText, rowsText, turnsText};
+ghost use Rattle.rules.specs.File.{decimal, rowsText, turnsText};
 ghost use Rattle.rules.proofs.Accepted.{Accepted};
 ghost use Rattle.settings.specs.View.{settingsOf};
-ghost use Rattle.writer.specs.PutView.{Room, Put, algoText, lineText, sizesText, limitsText, frontText, turnsLine, fileText};
+ghost use Rattle.writer.specs.PutView.{Room, Put, algoText, labelText, processorText, lineText, sizesText, limitsText, frontText, turnsLine, fileText};
 
 fn put(out: &mut [u8], at: usize, t: &[u8]) -> usize
     requires { ⌜ Room (now t) (now out) at ⌝ }
@@ -64,15 +63,22 @@ fn put_field(out: &mut [u8], at: usize, label: &[u8], n: usize) -> usize
     put_number(out, p, n, b'\n')
 }
 
-// Processor i's line.
-fn put_entries(out: &mut [u8], at: usize, i: usize, rounds: usize, hold: usize) -> usize
-    requires { ⌜ Room (entriesText i rounds hold) (now out) at ⌝ }
-    ensures { λ r. ⌜ Put (entriesText i rounds hold) (now (out .entry)) at (now (out .exit)) r ⌝ }
+fn put_label(out: &mut [u8], at: usize, i: usize) -> usize
+    requires { ⌜ Room (labelText i) (now out) at ⌝ }
+    ensures { λ r. ⌜ Put (labelText i) (now (out .entry)) at (now (out .exit)) r ⌝ }
 {
     let p = put_byte(out, at, b'p');
-    let q = put_number(out, p, i, b'=');
-    let r = put_number(out, q, rounds, b',');
-    put_number(out, r, hold, b'\n')
+    put_number(out, p, i, b'=')
+}
+
+// Processor i's line.
+fn put_entries(out: &mut [u8], at: usize, i: usize, rounds: usize, hold: usize) -> usize
+    requires { ⌜ Room (processorText i rounds hold) (now out) at ⌝ }
+    ensures { λ r. ⌜ Put (processorText i rounds hold) (now (out .entry)) at (now (out .exit)) r ⌝ }
+{
+    let p = put_label(out, at, i);
+    let q = put_number(out, p, rounds, b',');
+    put_number(out, q, hold, b'\n')
 }
 
 // The processors' lines.
@@ -83,7 +89,7 @@ fn put_rows(
     rounds: [u16; MOST_PROCS],
     hold: [u16; MOST_PROCS],
 ) -> usize
-    requires { ⌜ procs ≤ 64 ⌝ }
+    requires { ⌜ procs ≤ mostProcs ⌝ }
     requires { ⌜ Room (rowsText procs 0 rounds hold) (now out) at ⌝ }
     ensures { λ r. ⌜ Put (rowsText procs 0 rounds hold) (now (out .entry)) at (now (out .exit)) r ⌝ }
 {
@@ -129,12 +135,12 @@ fn put_algo(out: &mut [u8], at: usize, algo: u16) -> usize
     requires { ⌜ Room (algoText algo) (now out) at ⌝ }
     ensures { λ r. ⌜ Put (algoText algo) (now (out .entry)) at (now (out .exit)) r ⌝ }
 {
-    match algo {
-        TICKET => put(out, at, b"algo=ticket\n"),
-        MCS => put(out, at, b"algo=mcs\n"),
-        CENTRAL => put(out, at, b"algo=central\n"),
-        _ => put(out, at, b"algo=dissem\n"),
-    }
+    let name = name_of(algo);
+    let letters = name.letters;
+    let count = name.count;
+    let p = put(out, at, b"algo=");
+    let q = put(out, p, &letters[..count]);
+    put_byte(out, q, b'\n')
 }
 
 fn put_sizes(out: &mut [u8], at: usize, procs: u16, home: u16) -> usize

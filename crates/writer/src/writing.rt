@@ -3,12 +3,10 @@ use crate::lengths::file_length;
 use crate::putting::put_file;
 use settings::ACCEPTED;
 use settings::Settings;
+use settings::TOO_SHORT;
 use settings::refused_by;
 ghost use Rattle.settings.specs.View.{settingsOf};
 ghost use Rattle.writer.specs.WriteView.{WriteIs};
-
-// The number of refusal for a lent buffer that is too short.
-const TOO_SHORT: u8 = 6;
 
 // count: how many bytes were written.
 pub struct Written {

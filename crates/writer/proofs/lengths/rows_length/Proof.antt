@@ -3,6 +3,7 @@ use borrow.Author.Needs.{needs}
 use Prim.Native.Nat.{_-_, _*_, _≤_}
 use mathlib.Core.Path.{_≡_}
 use lib.ListN.{length}
+use Rattle.rules.specs.Bounds.{mostProcs}
 use Rattle.rules.specs.File.{rowsText}
 use Rattle.writer.proofs.Counted.{Counted, rows-none, rows-more, rows-long}
 use Rattle.writer.proofs.lengths.rows_length.Statement.{statement}
@@ -10,7 +11,7 @@ use Rattle.writer.proofs.lengths.rows_length.Tie as tie
 
 abbrev Inv-loop : tie.InvT-loop
 Inv-loop procs rounds hold i₀ total₀ i total =
-    (i ≤ procs) × (procs ≤ 64) × (length rounds ≡ 64) × (length hold ≡ 64) × (total ≤ i * 20)
+    (i ≤ procs) × (procs ≤ mostProcs) × (length rounds ≡ mostProcs) × (length hold ≡ mostProcs) × (total ≤ i * 20)
     × Counted (rowsText procs 0 rounds hold) total (rowsText (procs - i) i rounds hold)
 
 abbrev μ-loop : tie.MeasureT-loop

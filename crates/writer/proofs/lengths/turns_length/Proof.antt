@@ -2,12 +2,13 @@
 use borrow.Author.Needs.{needs}
 use Prim.Native.Nat.{_-_, _*_, _≤_}
 use lib.ListN.{length}
+use Rattle.rules.specs.Bounds.{mostTurns}
 use Rattle.writer.proofs.Counted.{Before, turns-one, turns-none, turns-more, turns-long}
 use Rattle.writer.proofs.lengths.turns_length.Statement.{statement}
 use Rattle.writer.proofs.lengths.turns_length.Tie as tie
 
 abbrev Inv-loop : tie.InvT-loop
-Inv-loop turns i₀ total₀ i total = (i ≤ length turns) × (length turns ≤ 16384) × (total ≤ i * 6) × Before turns total i
+Inv-loop turns i₀ total₀ i total = (i ≤ length turns) × (length turns ≤ mostTurns) × (total ≤ i * 6) × Before turns total i
 
 abbrev μ-loop : tie.MeasureT-loop
 μ-loop turns i₀ total₀ i total = length turns - i

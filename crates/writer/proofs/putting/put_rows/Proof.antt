@@ -3,6 +3,7 @@ use borrow.Author.Needs.{needs}
 use Prim.Native.Nat.{_-_, _≤_}
 use mathlib.Core.Path.{_≡_}
 use lib.ListN.{length}
+use Rattle.rules.specs.Bounds.{mostProcs}
 use Rattle.rules.specs.File.{rowsText}
 use Rattle.writer.proofs.Left.{Left, rows-start, rows-room, rows-next, rows-done}
 use Rattle.writer.proofs.putting.put_rows.Statement.{statement}
@@ -10,7 +11,7 @@ use Rattle.writer.proofs.putting.put_rows.Tie as tie
 
 abbrev Inv-loop : tie.InvT-loop
 Inv-loop out₀ at procs rounds hold i₀ p₀ out i p =
-    (i ≤ procs) × (procs ≤ 64) × (length rounds ≡ 64) × (length hold ≡ 64) × (length out ≡ length out₀)
+    (i ≤ procs) × (procs ≤ mostProcs) × (length rounds ≡ mostProcs) × (length hold ≡ mostProcs) × (length out ≡ length out₀)
     × Left (rowsText procs 0 rounds hold) out₀ at (rowsText (procs - i) i rounds hold) out p
 
 abbrev μ-loop : tie.MeasureT-loop
