@@ -14,8 +14,8 @@ const MOST_BYTES: usize = 65536;
 
 const MOST_EVENTS: usize = 32768;
 
-// The longest lines: 32 bytes of turns, stop and remote, 64 records of 33, and `events=` with 32768 events of 4 bytes.
-const MOST_LINES: usize = 133224;
+// The longest lines: 32 bytes of turns, stop and remote, 64 records of 33, and `events=` with 32768 events of 4 bytes, the separator among them.
+const MOST_LINES: usize = 133223;
 
 fn at_most(n: usize, most: usize) -> usize
     ensures { λ r. ⌜ r ≤ most ⌝ }
