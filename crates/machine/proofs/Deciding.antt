@@ -24,9 +24,9 @@ use Rattle.rules.proofs.Known.{unknown-number}
 use Rattle.rules.proofs.Accepted.{Accepted, accepted, accepts, refusal-room}
 use Rattle.rules.proofs.Views.{column}
 use Rattle.machine.specs.declared.core.Outcome.{Outcome}
-use Rattle.machine.specs.declared.played.Played.{Played}
-use Rattle.machine.specs.CountView.{numbers, doneOf, tallyOf}
-use Rattle.machine.specs.PlayView.{Ready, PlayedIs}
+use Rattle.turns.specs.declared.played.Played.{Played}
+use Rattle.turns.specs.CountView.{numbers, doneOf, tallyOf}
+use Rattle.turns.specs.PlayView.{Ready, PlayedIs}
 use Rattle.machine.specs.RunView.{OutcomeIs, recordsAt}
 
 abbrev pub refusedAs : ℕ → Outcome

@@ -1,5 +1,3 @@
-pub mod Counting
-pub mod Looping
 pub mod Deciding
 pub mod Walk
 pub mod Lent

@@ -1,3 +1,1 @@
-pub mod CountView
-pub mod PlayView
 pub mod RunView

@@ -10,7 +10,7 @@ use Rattle.machine.specs.declared.core.Outcome.{Outcome}
 use Rattle.machine.specs.declared.table.Record.{Record}
 use Rattle.machine.specs.declared.table.Answer.{Answer}
 use Rattle.machine.specs.declared.running.Tallied.{Tallied}
-use Rattle.machine.specs.CountView.{numbers}
+use Rattle.turns.specs.CountView.{numbers}
 
 -- ---- what the core decides
 

@@ -1,11 +1,7 @@
 // A run over plain numbers: refusals, the machine that the settings name, its numbers. The table is filled afterwards.
-use crate::central_loop::play_central;
-use crate::dissem_loop::play_dissem;
-use crate::mcs_loop::play_mcs;
-use crate::played::Played;
-use crate::ticket_loop::play_ticket;
 use settings::Settings;
 use settings::refused_by;
+use turns::Played;
 ghost use mathlib.Core.Path.{_≡_};
 ghost use lib.ListN.{replicate};
 ghost use Rattle.settings.specs.View.{settingsOf};
@@ -67,10 +63,10 @@ pub(crate) fn core(s: Settings, schedule: &[u16], events: &mut [u16], room: usiz
     }
     let algo = s.algo;
     let p = match algo {
-        1 => play_ticket(s, schedule, events),
-        2 => play_mcs(s, schedule, events),
-        3 => play_central(s, schedule, events),
-        _ => play_dissem(s, schedule, events),
+        1 => ticket::play(s, schedule, events),
+        2 => mcs::play(s, schedule, events),
+        3 => central::play(s, schedule, events),
+        _ => dissem::play(s, schedule, events),
     };
     accepted(s.procs, p)
 }

@@ -1,8 +1,5 @@
 pub mod Courses
 pub mod Turning
-pub mod TicketTurns
-pub mod McsTurns
-pub mod CentralTurns
-pub mod DissemFlags
-pub mod DissemTurns
+pub mod Counting
+pub mod Looping
 pub mod OneOutcome

@@ -1,81 +1,85 @@
--- A start and a turn have one outcome each: what their promises say of the memory, the course and what is told leaves no choice.
-use mathlib.Core.Path.{_≡_, refl, sym, _∙_}
-use mathlib.Core.List.{List}
-use Prim.Native.Nat.{ℕ, zero, suc, _+_}
-use lib.ListN.{getD, replicate}
-use Rattle.rules.specs.Settings.{Settings, entry}
+-- What a machine's run, the counting of a turn, and the kind of a processor's next turn are to be: the promises leave no choice.
+use mathlib.Core.Path.{_≡_, refl, sym, ap, ap₂, _∙_}
+use mathlib.Core.Bool.{Bool, true, false, true≢false, _&&_}
+use mathlib.Core.List.{List, [], _∷_}
+use Prim.Native.Nat.{ℕ, zero, suc, _+_, _*_, _/_, _%_, _<_}
+use native.Mathlib.Omega.{arith}
+use borrow.Author.Tests.{eq-eqb}
+use lib.Dec.{eqb}
+use lib.ListN.{length, getD}
+use Rattle.rules.specs.Settings.{Settings}
 use Rattle.rules.specs.Step.{Machine}
 use Rattle.rules.specs.Course.{Course}
-use Rattle.rules.specs.Ticket as ticket
-use Rattle.rules.specs.Mcs as mcs
-use Rattle.rules.specs.Central as central
-use Rattle.rules.specs.Dissem as dissem
+use Rattle.rules.specs.Tally.{Tally}
 use Rattle.rules.proofs.Turned.{Told}
-use Rattle.turns.specs.View.{Starts, Turns}
+use Rattle.rules.proofs.Views.{column}
+use Rattle.turns.specs.declared.course.Due.{Due}
+use Rattle.turns.specs.declared.course.Due.the-variants.{Hold, Idle, Step}
+use Rattle.turns.specs.declared.played.Played.{Played}
+use Rattle.turns.specs.View.{Dues}
+use Rattle.turns.specs.CountView.{numbers, doneOf, tallyOf, Counted, Noted}
+use Rattle.turns.specs.PlayView.{PlayedIs}
 
--- the promises speak of all settings that have what the caller gave: here is one
-abbrev some : (home procs first w rounds hold : ℕ) → Settings
-some home procs first w rounds hold = record {
-  algo = 0;
-  procs = procs;
-  home = home;
-  ticket = first;
-  budget = 0;
-  rounds = replicate (suc w) rounds;
-  hold = replicate (suc w) hold;
-}
+-- rows of one length that agree at every place are equal
+same-row : (a b : List ℕ) → length a ≡ length b → ((i : ℕ) → getD a i 0 ≡ getD b i 0) → a ≡ b
+same-row [] [] n f = refl
+same-row [] (y ∷ b) n f = absurd (omega (arith, n))
+same-row (x ∷ a) [] n f = absurd (omega (arith, n))
+same-row (x ∷ a) (y ∷ b) n f = ap₂ _∷_ (f 0) (same-row a b (omega (arith, n)) (λ i. f (suc i)))
 
-some-entry : (w v : ℕ) → entry (replicate (suc w) v) w ≡ v
-some-entry zero v = refl
-some-entry (suc w) v = some-entry w v
+-- a row of six numbers for each processor is its columns
+same-sums : (a b : List ℕ) (t u : ℕ) → length a ≡ length b → doneOf a ≡ doneOf b → tallyOf a t ≡ tallyOf b u → a ≡ b
+unfolding column
+same-sums a b t u n d e = same-row a b n at
+  where
+    of : (j o : ℕ) → j < numbers → getD a (o * numbers + j) 0 ≡ getD b (o * numbers + j) 0
+    of zero o h = ap (λ (f : ℕ → ℕ). f o) d
+    of (suc zero) o h = ap (λ (x : Tally). x .far o) e
+    of (suc (suc zero)) o h = ap (λ (x : Tally). x .most o) e
+    of (suc (suc (suc zero))) o h = ap (λ (x : Tally). x .here o) e
+    of (suc (suc (suc (suc zero)))) o h = ap (λ (x : Tally). x .spins o) e
+    of (suc (suc (suc (suc (suc zero))))) o h = ap (λ (x : Tally). x .idle o) e
+    of (suc (suc (suc (suc (suc (suc j)))))) o h = absurd (omega arith)
 
-module _ (m : Machine) (P : Settings → Type 0) (x₁ x₂ : m .State) (c₁ c₂ : Course) where
-  one-start : (s : Settings) → P s → Starts m P x₁ c₁ → Starts m P x₂ c₂ → (x₁ ≡ x₂) × (c₁ ≡ c₂)
-  one-start s p a b = (a .memory s p ∙ sym (b .memory s p), a .outset ∙ sym (b .outset))
+    at : (i : ℕ) → getD a i 0 ≡ getD b i 0
+    at i =
+        let whole : i / numbers * numbers + i % numbers ≡ i = omega arith in
+        rw whole at (of (i % numbers) (i / numbers) (omega arith))
 
-  module _ (home procs first w rounds hold : ℕ) (p : P (some home procs first w rounds hold)) (x : m .State) (c : Course) (d₁ d₂ : Told) where
-    one-turn : Turns m P w rounds hold x c x₁ c₁ d₁ → Turns m P w rounds hold x c x₂ c₂ d₂ → (x₁ ≡ x₂) × (c₁ ≡ c₂) × (d₁ ≡ d₂)
-    one-turn a b =
-        let t = a .turned (some home procs first w rounds hold) p (some-entry w rounds) (some-entry w hold) in
-        let u = b .turned (some home procs first w rounds hold) p (some-entry w rounds) (some-entry w hold) in
-        (t .memory ∙ sym (u .memory), t .course ∙ sym (u .course), t .tells ∙ sym (u .tells))
+-- ---- `play` of each machine
 
--- ---- the four machines
+pub one-outcome : (m : Machine) (s : Settings) (turns events events₁ events₂ : List ℕ) (p q : Played) → length (p .sums) ≡ length (q .sums)
+    → PlayedIs m s turns events events₁ p → PlayedIs m s turns events events₂ q → (p ≡ q) × (events₁ ≡ events₂)
+one-outcome m s turns events events₁ events₂ p q n a b =
+    let tally : tallyOf (p .sums) (p .total) ≡ tallyOf (q .sums) (q .total) = a .tally ∙ sym (b .tally) in
+    let sums : p .sums ≡ q .sums = same-sums (p .sums) (q .sums) (p .total) (q .total) n (a .done ∙ sym (b .done)) tally in
+    let total : p .total ≡ q .total = ap (λ (x : Tally). x .total) tally in
+    let stop : p .stop ≡ q .stop = a .stop ∙ sym (b .stop) in
+    let taken : p .taken ≡ q .taken = a .taken ∙ sym (b .taken) in
+    let count : p .events ≡ q .events = a .events ∙ sym (b .events) in
+    (rw (stop, taken, count, total, sums) refl, a .row ∙ sym (b .row))
 
-module _ (home procs first w rounds hold : ℕ) where
-  abbrev One-start : (m : Machine) → (Settings → Type 0) → Type 0
-  One-start m P = (x₁ x₂ : m .State) (c₁ c₂ : Course) → Starts m P x₁ c₁ → Starts m P x₂ c₂ → (x₁ ≡ x₂) × (c₁ ≡ c₂)
+-- ---- `tell`
 
-  abbrev One-turn : (m : Machine) → (Settings → Type 0) → Type 0
-  One-turn m P = (x x₁ x₂ : m .State) (c c₁ c₂ : Course) (d₁ d₂ : Told) → Turns m P w rounds hold x c x₁ c₁ d₁ → Turns m P w rounds hold x c x₂ c₂ d₂
-      → (x₁ ≡ x₂) × (c₁ ≡ c₂) × (d₁ ≡ d₂)
+pub one-tell : (w : ℕ) (d : Told) (a b c events events₁ events₂ : List ℕ) (n r q : ℕ) → length b ≡ length c → Counted w d a b → Counted w d a c
+    → Noted events n (d .codes) events₁ r → Noted events n (d .codes) events₂ q → (b ≡ c) × (events₁ ≡ events₂) × (r ≡ q)
+one-tell w d a b c events events₁ events₂ n r q same x y e f =
+    (same-sums b c _ _ same (x .done ∙ sym (y .done)) (x .tally 0 ∙ sym (y .tally 0)), e .row ∙ sym (f .row), e .place ∙ sym (f .place))
 
-  starts : (m : Machine) (P : Settings → Type 0) → P (some home procs first w rounds hold) → One-start m P
-  starts m P p x₁ x₂ c₁ c₂ = one-start m P x₁ x₂ c₁ c₂ (some home procs first w rounds hold) p
+-- ---- `due`
 
-  goes : (m : Machine) (P : Settings → Type 0) → P (some home procs first w rounds hold) → One-turn m P
-  goes m P p x x₁ x₂ c c₁ c₂ = one-turn m P x₁ x₂ c₁ c₂ home procs first w rounds hold p x c
+-- a processor with passages left at step 1 is not idle
+not-idle : (c : Course) (i rounds k : ℕ) → c .at i ≡ 1 → c .done i ≡ rounds → c .at i ≡ k → (eqb k 1 && eqb (c .done i) rounds) ≡ false → ⊥
+not-idle c i rounds k one all at some =
+    true≢false (sym (rw (eq-eqb k 1 (sym at ∙ one), eq-eqb (c .done i) rounds all) refl) ∙ some)
 
-  pub ticket-start : One-start ticket.machine (λ s. s .ticket ≡ first)
-  ticket-start = starts ticket.machine (λ s. s .ticket ≡ first) refl
-
-  pub ticket-turn : One-turn ticket.machine (λ s. s .home ≡ home)
-  ticket-turn = goes ticket.machine (λ s. s .home ≡ home) refl
-
-  pub mcs-start : One-start mcs.machine (λ s. Unit {0})
-  mcs-start = starts mcs.machine (λ s. Unit {0}) tt
-
-  pub mcs-turn : One-turn mcs.machine (λ s. s .home ≡ home)
-  mcs-turn = goes mcs.machine (λ s. s .home ≡ home) refl
-
-  pub central-start : One-start central.machine (λ s. s .procs ≡ procs)
-  central-start = starts central.machine (λ s. s .procs ≡ procs) refl
-
-  pub central-turn : One-turn central.machine (λ s. (s .home ≡ home) × (s .procs ≡ procs))
-  central-turn = goes central.machine (λ s. (s .home ≡ home) × (s .procs ≡ procs)) (refl, refl)
-
-  pub dissem-start : One-start dissem.machine (λ s. Unit {0})
-  dissem-start = starts dissem.machine (λ s. Unit {0}) tt
-
-  pub dissem-turn : One-turn dissem.machine (λ s. s .procs ≡ procs)
-  dissem-turn = goes dissem.machine (λ s. s .procs ≡ procs) refl
+pub one-due : (c : Course) (i rounds : ℕ) (r q : Due) → Dues c i rounds r → Dues c i rounds q → r ≡ q
+one-due c i rounds Hold Hold x y = refl
+one-due c i rounds Hold Idle x y = absurd (omega (arith, x, y .0))
+one-due c i rounds Hold (Step k) x y = absurd (omega (arith, x, y .0))
+one-due c i rounds Idle Hold x y = absurd (omega (arith, x .0, y))
+one-due c i rounds Idle Idle x y = refl
+one-due c i rounds Idle (Step k) x y = absurd (not-idle c i rounds k (x .1) (x .2) (y .1) (y .2))
+one-due c i rounds (Step k) Hold x y = absurd (omega (arith, x .0, y))
+one-due c i rounds (Step k) Idle x y = absurd (not-idle c i rounds k (y .1) (y .2) (x .1) (x .2))
+one-due c i rounds (Step k) (Step j) x y = ap Step (sym (x .1) ∙ y .1)

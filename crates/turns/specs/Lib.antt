@@ -1,5 +1,3 @@
 pub mod View
-pub mod TicketView
-pub mod McsView
-pub mod CentralView
-pub mod DissemView
+pub mod CountView
+pub mod PlayView

@@ -9,7 +9,7 @@ ghost use Rattle.turns.specs.View.{courseOf, holds, held, goneTo, ended,
 
 // at: the step, and HOLDS more where hold turns come first. left: how many of these follow the next one.
 // gap is 0. It parts the rows: the compiler then copies only those that a turn changes.
-pub(crate) struct Course {
+pub struct Course {
     done: [u16; 64],
     gap: u8,
     at: [u8; 64],
@@ -17,7 +17,7 @@ pub(crate) struct Course {
 }
 
 // What a processor's next turn is: a hold turn, an idle turn, or this step.
-pub(crate) enum Due {
+pub enum Due {
     Hold,
     Idle,
     Step(u8),
@@ -41,7 +41,7 @@ fn after_hold(step: u8, hold: u8) -> u8
 
 impl Course {
     // Everybody is at step 1 of the first passage.
-    pub(crate) fn start() -> Course
+    pub fn start() -> Course
         ensures { λ r. ⌜ courseOf r ≡ outset ⌝ }
     {
         Course {
@@ -52,7 +52,7 @@ impl Course {
         }
     }
 
-    pub(crate) fn due(self, i: usize, rounds: u16) -> Due
+    pub fn due(self, i: usize, rounds: u16) -> Due
         requires { ⌜ i < 64 ⌝ }
         ensures { λ r. ⌜ Dues (courseOf self) i rounds r ⌝ }
     {
@@ -71,7 +71,7 @@ impl Course {
     }
 
     // After a hold turn of processor i.
-    pub(crate) fn held(self, i: usize) -> Course
+    pub fn held(self, i: usize) -> Course
         requires { ⌜ (i < 64) × (holds ≤ getD (self .at) i 0) ⌝ }
         ensures { λ r. ⌜ courseOf r ≡ held (courseOf self) i ⌝ }
     {
@@ -90,7 +90,7 @@ impl Course {
     }
 
     // Processor i goes to this step.
-    pub(crate) fn goes(self, i: usize, step: u8) -> Course
+    pub fn goes(self, i: usize, step: u8) -> Course
         requires { ⌜ (i < 64) × (step < holds) ⌝ }
         ensures { λ r. ⌜ courseOf r ≡ goneTo (courseOf self) i step 0 ⌝ }
     {
@@ -107,7 +107,7 @@ impl Course {
     }
 
     // Processor i is granted the lock: it goes to this step, after its hold turns.
-    pub(crate) fn granted(self, i: usize, step: u8, hold: u8) -> Course
+    pub fn granted(self, i: usize, step: u8, hold: u8) -> Course
         requires { ⌜ (i < 64) × (step < holds) ⌝ }
         ensures { λ r. ⌜ courseOf r ≡ goneTo (courseOf self) i step hold ⌝ }
     {
@@ -125,7 +125,7 @@ impl Course {
     }
 
     // Processor i's passage is done.
-    pub(crate) fn over(self, i: usize) -> Course
+    pub fn over(self, i: usize) -> Course
         requires { ⌜ (i < 64) × (courseOf self .done i < 65535) ⌝ }
         ensures { λ r. ⌜ courseOf r ≡ ended (courseOf self) i 0 ⌝ }
     {
@@ -143,7 +143,7 @@ impl Course {
     }
 
     // Processor i leaves the barrier: its passage is done, and its hold turns follow.
-    pub(crate) fn leaves(self, i: usize, hold: u8) -> Course
+    pub fn leaves(self, i: usize, hold: u8) -> Course
         requires { ⌜ (i < 64) × (courseOf self .done i < 65535) ⌝ }
         ensures { λ r. ⌜ courseOf r ≡ ended (courseOf self) i hold ⌝ }
     {

@@ -1,15 +1,13 @@
-// The machines, one turn at a time. Not offered to callers: crate machine plays them over a schedule.
-mod central;
+// What every machine's turn and run are made of: the course of a processor, what a turn tells, and how it is counted.
+mod counts;
 mod course;
-mod dissem;
-mod doublings;
-mod made;
-mod mcs;
-mod ticket;
+pub mod made;
+mod played;
 
-pub use central::Central;
-pub use dissem::Dissem;
-pub use doublings::levels;
+pub use counts::far_of;
+pub use counts::tell;
+pub use course::Course;
+pub use course::Due;
 pub use made::Made;
-pub use mcs::Mcs;
-pub use ticket::Ticket;
+pub use played::End;
+pub use played::Played;

@@ -15,18 +15,18 @@ pub struct Made {
 }
 
 // The kinds of events.
-pub(crate) const JOIN: u8 = 1;
+pub const JOIN: u8 = 1;
 
-pub(crate) const GRANT: u8 = 2;
+pub const GRANT: u8 = 2;
 
-pub(crate) const RELEASE: u8 = 3;
+pub const RELEASE: u8 = 3;
 
-pub(crate) const ARRIVE: u8 = 4;
+pub const ARRIVE: u8 = 4;
 
-pub(crate) const LEAVE: u8 = 5;
+pub const LEAVE: u8 = 5;
 
 // A turn without access, of processor w: a hold turn, or an idle one.
-pub(crate) fn none(w: u16, idle: bool) -> Made
+pub fn none(w: u16, idle: bool) -> Made
     ensures { λ r. ⌜ r ≡ record { owner = w; first = 0; second = 0; began = false; done = false; spin = false; idle = idle } ⌝ }
 {
     Made {
@@ -41,7 +41,7 @@ pub(crate) fn none(w: u16, idle: bool) -> Made
 }
 
 // The first access of a passage.
-pub(crate) fn first(owner: u16, kind: u8) -> Made
+pub fn first(owner: u16, kind: u8) -> Made
     ensures { λ r. ⌜ r ≡ record { owner = owner; first = kind; second = 0; began = true; done = false; spin = false; idle = false } ⌝ }
 {
     Made {
@@ -56,7 +56,7 @@ pub(crate) fn first(owner: u16, kind: u8) -> Made
 }
 
 // A later one.
-pub(crate) fn later(owner: u16, kind: u8, second: u8) -> Made
+pub fn later(owner: u16, kind: u8, second: u8) -> Made
     ensures { λ r. ⌜ r ≡ record { owner = owner; first = kind; second = second; began = false; done = false; spin = false; idle = false } ⌝ }
 {
     Made {
@@ -71,7 +71,7 @@ pub(crate) fn later(owner: u16, kind: u8, second: u8) -> Made
 }
 
 // A read that has to be made again.
-pub(crate) fn spin(owner: u16) -> Made
+pub fn spin(owner: u16) -> Made
     ensures { λ r. ⌜ r ≡ record { owner = owner; first = 0; second = 0; began = false; done = false; spin = true; idle = false } ⌝ }
 {
     Made {
@@ -86,7 +86,7 @@ pub(crate) fn spin(owner: u16) -> Made
 }
 
 // The last access of a passage.
-pub(crate) fn last(owner: u16, kind: u8) -> Made
+pub fn last(owner: u16, kind: u8) -> Made
     ensures { λ r. ⌜ r ≡ record { owner = owner; first = kind; second = 0; began = false; done = true; spin = false; idle = false } ⌝ }
 {
     Made {
@@ -101,7 +101,7 @@ pub(crate) fn last(owner: u16, kind: u8) -> Made
 }
 
 // The only turn of a passage of processor w, without access: it arrives and leaves.
-pub(crate) fn alone(w: u16) -> Made
+pub fn alone(w: u16) -> Made
     ensures { λ r. ⌜ r ≡ record { owner = w; first = 4; second = 5; began = true; done = true; spin = false; idle = false } ⌝ }
 {
     Made {

@@ -9,7 +9,7 @@ use Rattle.rules.specs.Machines.{machine}
 use Rattle.rules.specs.Calls.{refusal}
 use Rattle.rules.proofs.Accepted.{accepted}
 use Rattle.settings.specs.View.{settingsOf}
-use Rattle.machine.specs.PlayView.{Ready, PlayedIs}
+use Rattle.turns.specs.PlayView.{Ready, PlayedIs}
 use Rattle.machine.proofs.Deciding.{core-refused, core-few-records, core-few-events, core-ready, core-by, core-played, core-fourth}
 use Rattle.machine.proofs.core.core.Statement.{statement}
 use Rattle.machine.proofs.core.core.Tie as tie

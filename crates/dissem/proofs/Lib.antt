@@ -1,0 +1,2 @@
+pub mod DissemFlags
+pub mod DissemTurns

@@ -1,0 +1,192 @@
+// The dissemination barrier (figure 10).
+use turns::Course;
+use turns::Due;
+use turns::Made;
+use turns::made;
+ghost use mathlib.Core.Path.{_≡_};
+ghost use mathlib.Core.Bool.{false};
+ghost use Prim.Native.Nat.{ℕ, _<_, _≤_, _+_, _-_, _*_, _/_, _%_, _^_};
+ghost use lib.Dec.{eqb};
+ghost use Rattle.rules.specs.Memory.{pick, upd};
+ghost use Rattle.rules.specs.Dissem.{machine, doublings};
+ghost use Rattle.turns.specs.View.{toldOf, Starts, Turns};
+ghost use Rattle.dissem.specs.DissemView.{senseOf, parityOf, roundOf, bits, flagsOf, stateOf, courseIn, Sound};
+
+// flags: of each processor its flags, variable v as bit v. own: its round * 4 + parity * 2 + sense.
+// gap: always 0. A number between two rows keeps them from being copied as one.
+pub(crate) struct Flags {
+    flags: [u16; 64],
+    gap: u16,
+    own: [u8; 64],
+}
+
+pub(crate) struct Dissem {
+    flags: Flags,
+    course: Course,
+    pub(crate) made: Made,
+}
+
+fn sense(own: u8) -> u16
+    ensures { λ r. ⌜ r ≡ senseOf own ⌝ }
+{
+    (own % 2) as u16
+}
+
+// The variable that is written or read in this round.
+fn variable(own: u8) -> u8
+    ensures { λ r. ⌜ r ≡ 2 * roundOf own + parityOf own ⌝ }
+{
+    2 * (own / 4) + own / 2 % 2
+}
+
+// What own becomes on leaving: the sense is toggled if parity is 1, parity changes, and the round is 0.
+fn left(own: u8) -> u8
+    ensures { λ r. ⌜ (senseOf r ≡ pick (eqb (parityOf own) 1) (1 - senseOf own) (senseOf own)) × (parityOf r ≡ 1 - parityOf own) × (roundOf r ≡ 0) ⌝ }
+{
+    match own % 4 {
+        0 => 2,
+        1 => 3,
+        2 => 1,
+        _ => 0,
+    }
+}
+
+fn bit(word: u16, v: u8) -> u16
+    requires { ⌜ v < 16 ⌝ }
+    ensures { λ r. ⌜ r ≡ bits word v ⌝ }
+{
+    (word >> v) % 2
+}
+
+// The word with this value at bit v.
+fn with_bit(word: u16, v: u8, value: u16) -> u16
+    requires { ⌜ (v < 16) × (value < 2) ⌝ }
+    ensures { λ r. ⌜ bits r ≡ upd (bits word) v value ⌝ }
+{
+    if bit(word, v) == value {
+        return word;
+    }
+    word ^ (1u16 << v)
+}
+
+// The processor that w tells in round k.
+fn partner(w: u16, k: u8, procs: u16) -> u16
+    requires { ⌜ (w < procs) × (procs ≤ 64) × (k < 6) ⌝ }
+    ensures { λ r. ⌜ (r ≡ (w + 2 ^ k) % procs) × (r < procs) ⌝ }
+{
+    (w + (1u16 << k)) % procs
+}
+
+// The access to a partner's flag: at step 1 it is the arrival.
+fn telling(j: u16, step: u8) -> Made
+    ensures { λ r. ⌜ r ≡ record { owner = j; first = pick (eqb step 1) 4 0; second = 0; began = eqb step 1; done = false; spin = false; idle = false } ⌝ }
+{
+    if step == 1 {
+        return made::first(j, made::ARRIVE);
+    }
+    made::later(j, 0, 0)
+}
+
+impl Flags {
+    // Processor i writes its sense into j's flag, at its own parity and round.
+    fn tells(self, i: usize, j: usize) -> Flags
+        requires { ⌜ (i < 64) × (j < 64) × (flagsOf self .round i < 6) ⌝ }
+        ensures { λ r. ⌜ flagsOf r ≡ record { flag = upd (flagsOf self .flag) j (upd (flagsOf self .flag j) (2 * flagsOf self .round i + flagsOf self .parity i) (flagsOf self .sense i)); sense = flagsOf self .sense; parity = flagsOf self .parity; round = flagsOf self .round } ⌝ }
+    {
+        let own = self.own;
+        let o = own[i];
+        let mut flags = self.flags;
+        flags[j] = with_bit(flags[j], variable(o), sense(o));
+        Flags { flags, gap: 0, own }
+    }
+
+    // Processor i goes to the next round.
+    fn goes_on(self, i: usize) -> Flags
+        requires { ⌜ (i < 64) × (flagsOf self .round i < 6) ⌝ }
+        ensures { λ r. ⌜ flagsOf r ≡ record { flag = flagsOf self .flag; sense = flagsOf self .sense; parity = flagsOf self .parity; round = upd (flagsOf self .round) i (flagsOf self .round i + 1) } ⌝ }
+    {
+        let flags = self.flags;
+        let mut own = self.own;
+        own[i] = own[i] + 4;
+        Flags { flags, gap: 0, own }
+    }
+
+    fn leaves(self, i: usize) -> Flags
+        requires { ⌜ i < 64 ⌝ }
+        ensures { λ r. ⌜ flagsOf r ≡ record { flag = flagsOf self .flag; sense = upd (flagsOf self .sense) i (pick (eqb (flagsOf self .parity i) 1) (1 - flagsOf self .sense i) (flagsOf self .sense i)); parity = upd (flagsOf self .parity) i (1 - flagsOf self .parity i); round = upd (flagsOf self .round) i 0 } ⌝ }
+    {
+        let flags = self.flags;
+        let mut own = self.own;
+        own[i] = left(own[i]);
+        Flags { flags, gap: 0, own }
+    }
+}
+
+impl Dissem {
+    fn of(flags: Flags, course: Course, made: Made) -> Dissem
+        ensures { λ r. ⌜ r ≡ record { flags = flags; course = course; made = made } ⌝ }
+    {
+        Dissem {
+            flags,
+            course,
+            made,
+        }
+    }
+
+    pub(crate) fn start() -> Dissem
+        ensures { λ r. ⌜ Starts machine (λ s. Unit {0}) (stateOf r) (courseIn r) × ((levels : ℕ) → Sound levels (stateOf r) (courseIn r)) ⌝ }
+    {
+        let flags = Flags {
+            flags: [0; 64],
+            gap: 0,
+            own: [1; 64],
+        };
+        Dissem::of(flags, Course::start(), made::none(0, false))
+    }
+
+    // Processor w's turn. levels: R.
+    pub(crate) fn turn(self, w: u16, procs: u16, levels: u8, rounds: u16, hold: u8) -> Dissem
+        requires { ⌜ (w < procs) × (procs ≤ 64) × (levels ≡ doublings procs) × (courseIn self .done w < 65535) × Sound levels (stateOf self) (courseIn self) ⌝ }
+        ensures { λ r. ⌜ Turns machine (λ s. s .procs ≡ procs) w rounds hold (stateOf self) (courseIn self) (stateOf r) (courseIn r) (toldOf w (r .made)) × Sound levels (stateOf r) (courseIn r) ⌝ }
+    {
+        let i = w as usize;
+        let flags = self.flags;
+        let course = self.course;
+        let due = course.due(i, rounds);
+        let step = match due {
+            Due::Hold => {
+                return Dissem::of(flags, course.held(i), made::none(w, false));
+            }
+            Due::Idle => {
+                return Dissem::of(flags, course, made::none(w, true));
+            }
+            Due::Step(step) => step,
+        };
+        let own = flags.own;
+        let o = own[i];
+        // Every way returns: the state is then copied nowhere.
+        if step == 2 {
+            let words = flags.flags;
+            if bit(words[i], variable(o)) != sense(o) {
+                return Dissem::of(flags, course, made::spin(w));
+            }
+            if o / 4 + 1 == levels {
+                return Dissem::of(
+                    flags.leaves(i),
+                    course.leaves(i, hold),
+                    made::last(w, made::LEAVE),
+                );
+            }
+            return Dissem::of(flags.goes_on(i), course.goes(i, 3), made::later(w, 0, 0));
+        }
+        if procs == 1 {
+            return Dissem::of(flags, course.leaves(i, hold), made::alone(w));
+        }
+        let j = partner(w, o / 4, procs);
+        Dissem::of(
+            flags.tells(i, j as usize),
+            course.goes(i, 2),
+            telling(j, step),
+        )
+    }
+}

@@ -1,0 +1,242 @@
+// The MCS lock (figure 5).
+use turns::Course;
+use turns::Due;
+use turns::Made;
+use turns::made;
+ghost use mathlib.Core.Path.{_≡_};
+ghost use Prim.Native.Nat.{ℕ, _<_};
+ghost use Rattle.rules.specs.Mcs.{machine, setNext, setLocked, setPred, setSucc};
+ghost use Rattle.turns.specs.View.{toldOf, Starts, Turns};
+ghost use Rattle.mcs.specs.McsView.{nodesOf, stateOf, courseIn, Sound};
+
+// Each processor's next and locked, and what it keeps for itself. In next, nil is 0 and processor q is q + 1; in locked, true is 1.
+pub(crate) struct Nodes {
+    next: [u8; 64],
+    locked: [u8; 64],
+    pred: [u8; 64],
+    succ: [u8; 64],
+}
+
+// tail is nil or a processor, as in next.
+pub(crate) struct Mcs {
+    nodes: Nodes,
+    tail: u16,
+    course: Course,
+    pub(crate) made: Made,
+}
+
+// The nodes with one value stored.
+impl Nodes {
+    fn with_next(self, q: usize, v: u8) -> Nodes
+        requires { ⌜ q < 64 ⌝ }
+        ensures { λ r. ⌜ ((tail : ℕ) → nodesOf tail r ≡ setNext q v (nodesOf tail self)) ⌝ }
+    {
+        let mut next = self.next;
+        next[q] = v;
+        let locked = self.locked;
+        let pred = self.pred;
+        let succ = self.succ;
+        Nodes {
+            next,
+            locked,
+            pred,
+            succ,
+        }
+    }
+
+    fn with_locked(self, q: usize, v: u8) -> Nodes
+        requires { ⌜ q < 64 ⌝ }
+        ensures { λ r. ⌜ ((tail : ℕ) → nodesOf tail r ≡ setLocked q v (nodesOf tail self)) ⌝ }
+    {
+        let next = self.next;
+        let mut locked = self.locked;
+        locked[q] = v;
+        let pred = self.pred;
+        let succ = self.succ;
+        Nodes {
+            next,
+            locked,
+            pred,
+            succ,
+        }
+    }
+
+    fn with_pred(self, q: usize, v: u8) -> Nodes
+        requires { ⌜ q < 64 ⌝ }
+        ensures { λ r. ⌜ ((tail : ℕ) → nodesOf tail r ≡ setPred q v (nodesOf tail self)) ⌝ }
+    {
+        let next = self.next;
+        let locked = self.locked;
+        let mut pred = self.pred;
+        pred[q] = v;
+        let succ = self.succ;
+        Nodes {
+            next,
+            locked,
+            pred,
+            succ,
+        }
+    }
+
+    fn with_succ(self, q: usize, v: u8) -> Nodes
+        requires { ⌜ q < 64 ⌝ }
+        ensures { λ r. ⌜ ((tail : ℕ) → nodesOf tail r ≡ setSucc q v (nodesOf tail self)) ⌝ }
+    {
+        let next = self.next;
+        let locked = self.locked;
+        let pred = self.pred;
+        let mut succ = self.succ;
+        succ[q] = v;
+        Nodes {
+            next,
+            locked,
+            pred,
+            succ,
+        }
+    }
+}
+
+impl Mcs {
+    fn of(nodes: Nodes, tail: u16, course: Course, made: Made) -> Mcs
+        ensures { λ r. ⌜ r ≡ record { nodes = nodes; tail = tail; course = course; made = made } ⌝ }
+    {
+        Mcs {
+            nodes,
+            tail,
+            course,
+            made,
+        }
+    }
+
+    pub(crate) fn start() -> Mcs
+        ensures { λ r. ⌜ Starts machine (λ s. Unit {0}) (stateOf r) (courseIn r) × Sound (stateOf r) ⌝ }
+    {
+        let nodes = Nodes {
+            next: [0; 64],
+            locked: [0; 64],
+            pred: [0; 64],
+            succ: [0; 64],
+        };
+        Mcs::of(nodes, 0, Course::start(), made::none(0, false))
+    }
+
+    // Processor w's turn.
+    pub(crate) fn turn(self, w: u16, home: u16, rounds: u16, hold: u8) -> Mcs
+        requires { ⌜ (w < 64) × (courseIn self .done w < 65535) × Sound (stateOf self) ⌝ }
+        ensures { λ r. ⌜ Turns machine (λ s. s .home ≡ home) w rounds hold (stateOf self) (courseIn self) (stateOf r) (courseIn r) (toldOf w (r .made)) × Sound (stateOf r) ⌝ }
+    {
+        let i = w as usize;
+        let nodes = self.nodes;
+        let tail = self.tail;
+        let course = self.course;
+        let due = course.due(i, rounds);
+        let step = match due {
+            Due::Hold => {
+                return Mcs::of(nodes, tail, course.held(i), made::none(w, false));
+            }
+            Due::Idle => {
+                return Mcs::of(nodes, tail, course, made::none(w, true));
+            }
+            Due::Step(step) => step,
+        };
+        // Every arm returns: the state is then copied nowhere.
+        match step {
+            1 => {
+                return Mcs::of(
+                    nodes.with_next(i, 0),
+                    tail,
+                    course.goes(i, 2),
+                    made::first(w, 0),
+                );
+            }
+            2 => {
+                if tail == 0 {
+                    return Mcs::of(
+                        nodes,
+                        w + 1,
+                        course.granted(i, 7, hold),
+                        made::later(home, made::JOIN, made::GRANT),
+                    );
+                }
+                return Mcs::of(
+                    nodes.with_pred(i, (tail - 1) as u8),
+                    w + 1,
+                    course.goes(i, 3),
+                    made::later(home, made::JOIN, 0),
+                );
+            }
+            3 => {
+                return Mcs::of(
+                    nodes.with_locked(i, 1),
+                    tail,
+                    course.goes(i, 4),
+                    made::later(w, 0, 0),
+                );
+            }
+            4 => {
+                let pred = nodes.pred;
+                let p = pred[i];
+                return Mcs::of(
+                    nodes.with_next(p as usize, (w + 1) as u8),
+                    tail,
+                    course.goes(i, 5),
+                    made::later(p as u16, 0, 0),
+                );
+            }
+            5 => {
+                let locked = nodes.locked;
+                if locked[i] == 0 {
+                    return Mcs::of(
+                        nodes,
+                        tail,
+                        course.granted(i, 7, hold),
+                        made::later(w, made::GRANT, 0),
+                    );
+                }
+                return Mcs::of(nodes, tail, course, made::spin(w));
+            }
+            7 => {
+                let next = nodes.next;
+                let n = next[i];
+                if n == 0 {
+                    return Mcs::of(nodes, tail, course.goes(i, 8), made::later(w, 0, 0));
+                }
+                return Mcs::of(
+                    nodes.with_succ(i, n - 1),
+                    tail,
+                    course.goes(i, 10),
+                    made::later(w, 0, 0),
+                );
+            }
+            8 => {
+                if tail == w + 1 {
+                    return Mcs::of(nodes, 0, course.over(i), made::last(home, made::RELEASE));
+                }
+                return Mcs::of(nodes, tail, course.goes(i, 9), made::later(home, 0, 0));
+            }
+            9 => {
+                let next = nodes.next;
+                let n = next[i];
+                if n == 0 {
+                    return Mcs::of(nodes, tail, course, made::spin(w));
+                }
+                return Mcs::of(
+                    nodes.with_succ(i, n - 1),
+                    tail,
+                    course.goes(i, 10),
+                    made::later(w, 0, 0),
+                );
+            }
+            _ => {
+                let succ = nodes.succ;
+                let q = succ[i];
+                return Mcs::of(
+                    nodes.with_locked(q as usize, 0),
+                    tail,
+                    course.over(i),
+                    made::last(q as u16, made::RELEASE),
+                );
+            }
+        }
+    }
+}

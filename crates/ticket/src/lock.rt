@@ -1,0 +1,121 @@
+// The ticket lock (figure 2).
+use turns::Course;
+use turns::Due;
+use turns::Made;
+use turns::made;
+ghost use mathlib.Core.Path.{_≡_};
+ghost use Prim.Native.Nat.{_<_, _+_, _%_};
+ghost use Rattle.rules.specs.Memory.{upd};
+ghost use Rattle.rules.specs.Bounds.{mostTicket};
+ghost use Rattle.rules.specs.Ticket.{machine, up};
+ghost use Rattle.turns.specs.View.{toldOf, Starts, Turns};
+ghost use Rattle.ticket.specs.TicketView.{lockOf, stateOf, courseIn};
+
+// Both counters, and each processor's own ticket.
+pub(crate) struct Lock {
+    mine: [u16; 64],
+    request: u16,
+    release: u16,
+}
+
+pub(crate) struct Ticket {
+    lock: Lock,
+    course: Course,
+    pub(crate) made: Made,
+}
+
+impl Lock {
+    // Processor i takes the next ticket. After 65535 comes 0.
+    fn asks(self, i: usize) -> Lock
+        requires { ⌜ i < 64 ⌝ }
+        ensures { λ r. ⌜ lockOf r ≡ record { request = up (self .request); release = self .release; mine = upd (lockOf self .mine) i (self .request) } ⌝ }
+    {
+        let request = self.request;
+        let mut mine = self.mine;
+        mine[i] = request;
+        Lock {
+            mine,
+            request: std::num::wrapping_add_u16(request, 1),
+            release: self.release,
+        }
+    }
+
+    // The next ticket is served.
+    fn frees(self) -> Lock
+        ensures { λ r. ⌜ lockOf r ≡ record { request = self .request; release = up (self .release); mine = lockOf self .mine } ⌝ }
+    {
+        let mine = self.mine;
+        Lock {
+            mine,
+            request: self.request,
+            release: std::num::wrapping_add_u16(self.release, 1),
+        }
+    }
+}
+
+impl Ticket {
+    fn of(lock: Lock, course: Course, made: Made) -> Ticket
+        ensures { λ r. ⌜ r ≡ record { lock = lock; course = course; made = made } ⌝ }
+    {
+        Ticket { lock, course, made }
+    }
+
+    pub(crate) fn start(ticket: u16) -> Ticket
+        ensures { λ r. ⌜ Starts machine (λ s. s .ticket ≡ ticket) (stateOf r) (courseIn r) ⌝ }
+    {
+        let lock = Lock {
+            mine: [0; 64],
+            request: ticket,
+            release: ticket,
+        };
+        Ticket::of(lock, Course::start(), made::none(0, false))
+    }
+
+    // Processor w's turn.
+    pub(crate) fn turn(self, w: u16, home: u16, rounds: u16, hold: u8) -> Ticket
+        requires { ⌜ (w < 64) × (courseIn self .done w < 65535) ⌝ }
+        ensures { λ r. ⌜ Turns machine (λ s. s .home ≡ home) w rounds hold (stateOf self) (courseIn self) (stateOf r) (courseIn r) (toldOf w (r .made)) ⌝ }
+    {
+        let i = w as usize;
+        let lock = self.lock;
+        let course = self.course;
+        let due = course.due(i, rounds);
+        let step = match due {
+            Due::Hold => {
+                return Ticket::of(lock, course.held(i), made::none(w, false));
+            }
+            Due::Idle => {
+                return Ticket::of(lock, course, made::none(w, true));
+            }
+            Due::Step(step) => step,
+        };
+        // Every arm returns: the state is then copied nowhere.
+        match step {
+            1 => {
+                return Ticket::of(
+                    lock.asks(i),
+                    course.goes(i, 2),
+                    made::first(home, made::JOIN),
+                );
+            }
+            2 => {
+                let mine = lock.mine;
+                if lock.release == mine[i] {
+                    return Ticket::of(
+                        lock,
+                        course.granted(i, 3, hold),
+                        made::later(home, made::GRANT, 0),
+                    );
+                }
+                return Ticket::of(lock, course, made::spin(home));
+            }
+            _ => {
+                return Ticket::of(
+                    lock.frees(),
+                    course.over(i),
+                    made::last(home, made::RELEASE),
+                );
+            }
+        }
+    }
+}

@@ -1,0 +1,17 @@
+// What a run over a schedule gives, in plain numbers.
+ghost use mathlib.Core.Path.{_≡_};
+
+// taken: turns. events: how many. sums: six numbers for each processor.
+pub struct Played {
+    pub stop: u8,
+    pub taken: usize,
+    pub events: usize,
+    pub total: u32,
+    pub sums: [u16; 384],
+}
+
+// Why the run ended, and after how many turns.
+pub struct End {
+    pub stop: u8,
+    pub taken: usize,
+}
