@@ -1,4 +1,5 @@
 -- Laws for the MCS lock's `turn`: one for each way that a step goes, and what it names stays sound.
+use mathlib.Core.Logic.{_⊎_, inl, inr}
 use mathlib.Core.Path.{_≡_, refl, sym, ap, _∙_}
 use mathlib.Core.Bool.{Bool, true, false}
 use mathlib.Core.List.{List, [], _∷_}
@@ -61,9 +62,8 @@ pub record Last (k : ℕ) : Type 0 where
   pub not3 : k ≡ 3 → ⊥
   pub not4 : k ≡ 4 → ⊥
   pub not5 : k ≡ 5 → ⊥
-  pub not7 : k ≡ 7 → ⊥
+  pub not79 : (k ≡ 7) ⊎ (k ≡ 9) → ⊥
   pub not8 : k ≡ 8 → ⊥
-  pub not9 : k ≡ 9 → ⊥
 
 -- processor w is at step k of its passage, in a sound state
 pub record Here (w rounds : ℕ) (x : State) (c : Course) (k : ℕ) : Type 0 where
@@ -143,12 +143,13 @@ module _ {w rounds : ℕ} {x : State} {c : Course} {k : ℕ} (o : Here w rounds 
     rw a (o .sound),
   )
 
-  pub mcs-finds : k ≡ 7 → (x .next w ≡ 0 → ⊥) → x′ ≡ setSucc w (x .next w - 1) x → c′ ≡ goneTo c w 10 0 → d ≡ touching w w [] false false false → Out
+  pub mcs-finds : (k ≡ 7) ⊎ (k ≡ 9) → (x .next w ≡ 0 → ⊥) → x′ ≡ setSucc w (x .next w - 1) x → c′ ≡ goneTo c w 10 0 → d ≡ touching w w [] false false false → Out
   unfolding step remote
   mcs-finds z t a b g =
       let q : x .next w ≡ suc (x .next w - 1) = omega arith in (
-        turns-to machine (At home) w rounds hold x c (o .what) (o .dues) x′ c′ d k (o .is) (λ s. looks (suc (x .next w - 1)) x w) (λ s p. rw z (ap (λ n. looks n x w) q)) (λ s p. a)
-            (λ s p. rw z g) 10 (λ s. refl) (λ s. refl) b,
+        turns-to machine (At home) w rounds hold x c (o .what) (o .dues) x′ c′ d k (o .is) (λ s. looks (suc (x .next w - 1)) x w)
+            (λ s p. elim z [ inl e ↦ rw e (ap (λ n. looks n x w) q) | inr e ↦ rw e (ap (λ n. rereads n x w) q) ]) (λ s p. a)
+            (λ s p. elim z [ inl e ↦ rw e g | inr e ↦ rw e g ]) 10 (λ s. refl) (λ s. refl) b,
         rw a (sound-succ x (o .sound) w (x .next w - 1) (omega (arith, o .sound .next w))),
       )
 
@@ -176,20 +177,11 @@ module _ {w rounds : ℕ} {x : State} {c : Course} {k : ℕ} (o : Here w rounds 
     rw a (o .sound),
   )
 
-  pub mcs-meets : k ≡ 9 → (x .next w ≡ 0 → ⊥) → x′ ≡ setSucc w (x .next w - 1) x → c′ ≡ goneTo c w 10 0 → d ≡ touching w w [] false false false → Out
-  unfolding step remote
-  mcs-meets z t a b g =
-      let q : x .next w ≡ suc (x .next w - 1) = omega arith in (
-        turns-to machine (At home) w rounds hold x c (o .what) (o .dues) x′ c′ d k (o .is) (λ s. rereads (suc (x .next w - 1)) x w) (λ s p. rw z (ap (λ n. rereads n x w) q)) (λ s p. a)
-            (λ s p. rw z g) 10 (λ s. refl) (λ s. refl) b,
-        rw a (sound-succ x (o .sound) w (x .next w - 1) (omega (arith, o .sound .next w))),
-      )
-
   pub mcs-wakes : Last k → x′ ≡ setLocked (x .succ w) 0 x → c′ ≡ ended c w 0 → d ≡ touching w (x .succ w) ((768 + w) ∷ []) false true false → Out
   unfolding step remote
   mcs-wakes y a b g = (
     turns-over machine (At home) w rounds hold x c (o .what) (o .dues) x′ c′ d k (o .is) (λ s. wakes x w)
-        (λ s p. rw (ne-eqb _ _ (y .not1), ne-eqb _ _ (y .not2), ne-eqb _ _ (y .not3), ne-eqb _ _ (y .not4), ne-eqb _ _ (y .not5), ne-eqb _ _ (y .not7), ne-eqb _ _ (y .not8), ne-eqb _ _ (y .not9)) refl)
+        (λ s p. rw (ne-eqb _ _ (y .not1), ne-eqb _ _ (y .not2), ne-eqb _ _ (y .not3), ne-eqb _ _ (y .not4), ne-eqb _ _ (y .not5), ne-eqb _ _ (λ e. y .not79 (inl e)), ne-eqb _ _ (y .not8), ne-eqb _ _ (λ e. y .not79 (inr e))) refl)
         (λ s p. a) (λ s p. rw (ne-eqb _ _ (y .not1)) g) (λ s. refl) (λ s. refl) b,
     rw a (sound-locked x (o .sound) (x .succ w) 0),
   )

@@ -195,37 +195,28 @@ impl Mcs {
                 }
                 return Mcs::of(nodes, tail, course, made::spin(w));
             }
-            7 => {
+            // Figure 5 reads next in two places. Nil leads on to the compare-and-swap at 7, and is a spin at 9.
+            7 | 9 => {
                 let next = nodes.next;
                 let n = next[i];
-                if n == 0 {
+                if n != 0 {
+                    return Mcs::of(
+                        nodes.with_succ(i, n - 1),
+                        tail,
+                        course.goes(i, 10),
+                        made::later(w, 0, 0),
+                    );
+                }
+                if step == 7 {
                     return Mcs::of(nodes, tail, course.goes(i, 8), made::later(w, 0, 0));
                 }
-                return Mcs::of(
-                    nodes.with_succ(i, n - 1),
-                    tail,
-                    course.goes(i, 10),
-                    made::later(w, 0, 0),
-                );
+                return Mcs::of(nodes, tail, course, made::spin(w));
             }
             8 => {
                 if tail == w + 1 {
                     return Mcs::of(nodes, 0, course.over(i), made::last(home, made::RELEASE));
                 }
                 return Mcs::of(nodes, tail, course.goes(i, 9), made::later(home, 0, 0));
-            }
-            9 => {
-                let next = nodes.next;
-                let n = next[i];
-                if n == 0 {
-                    return Mcs::of(nodes, tail, course, made::spin(w));
-                }
-                return Mcs::of(
-                    nodes.with_succ(i, n - 1),
-                    tail,
-                    course.goes(i, 10),
-                    made::later(w, 0, 0),
-                );
             }
             _ => {
                 let succ = nodes.succ;

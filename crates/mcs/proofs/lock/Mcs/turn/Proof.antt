@@ -1,5 +1,6 @@
 -- `mcs::lock::Mcs::turn` meets its contract: each return is one way that a turn goes.
 use borrow.Author.Needs.{needs}
+use mathlib.Core.Logic.{inl, inr}
 use mathlib.Core.Path.{_≡_, refl, ap, _∙_}
 use native.Mathlib.Omega.{arith}
 use Rattle.rules.specs.Mcs.{machine}
@@ -8,7 +9,7 @@ use Rattle.turns.specs.View.{courseOf, toldOf}
 use Rattle.mcs.specs.McsView.{stateOf}
 use Rattle.turns.proofs.Courses.{held-some}
 use Rattle.turns.proofs.Turning.{turns-hold, turns-idle, told-none}
-use Rattle.mcs.proofs.McsTurns.{Here, Last, mcs-clears, mcs-takes, mcs-joins, mcs-locks, mcs-links, mcs-granted, mcs-spins, mcs-alone, mcs-finds, mcs-drains, mcs-fails, mcs-rereads, mcs-meets, mcs-wakes}
+use Rattle.mcs.proofs.McsTurns.{Here, Last, mcs-clears, mcs-takes, mcs-joins, mcs-locks, mcs-links, mcs-granted, mcs-spins, mcs-alone, mcs-finds, mcs-drains, mcs-fails, mcs-rereads, mcs-wakes}
 use Rattle.mcs.proofs.lock.Mcs.turn.Statement.{statement}
 use Rattle.mcs.proofs.lock.Mcs.turn.Tie as tie
 
@@ -51,25 +52,25 @@ returns-3 : tie.Need-returns-3
 returns-3 c =
     let k : tie.At-match2-keys1 = c .before .before .before .before in
     rw (c .of3 .ensures)
-    (mcs-clears (here (k .before)) _ _ _ _ _ (search needs) (c .before .before .before .with-next .ensures _) (c .before .before .goes .ensures) (ap (toldOf _) (c .before .first .ensures)))
+    (mcs-clears (here (k .before)) _ _ _ _ _ (k .match2 .keys1) (c .before .before .before .with-next .ensures _) (c .before .before .goes .ensures) (ap (toldOf _) (c .before .first .ensures)))
 
 returns-4 : tie.Need-returns-4
 returns-4 c =
     let b : tie.Then1 = c .before .before .before in
     rw (c .of4 .ensures)
-    (mcs-takes (here (b .before .before)) _ _ _ _ _ (search needs) (b .if1 .taken) refl (c .before .before .granted .ensures) (ap (toldOf _) (c .before .later .ensures)))
+    (mcs-takes (here (b .before .before)) _ _ _ _ _ (b .before .match2 .keys2) (b .if1 .taken) refl (c .before .before .granted .ensures) (ap (toldOf _) (c .before .later .ensures)))
 
 returns-5 : tie.Need-returns-5
 returns-5 c =
     let b : tie.Else1 = c .before .before .before .before in
     rw (c .of5 .ensures)
-    (mcs-joins (here (b .before .before)) _ _ _ _ _ (search needs) (search needs) (c .before .before .before .with-pred .ensures _) (c .before .before .goes2 .ensures) (ap (toldOf _) (c .before .later2 .ensures)))
+    (mcs-joins (here (b .before .before)) _ _ _ _ _ (b .before .match2 .keys2) (b .if1 .left) (c .before .before .before .with-pred .ensures _) (c .before .before .goes2 .ensures) (ap (toldOf _) (c .before .later2 .ensures)))
 
 returns-6 : tie.Need-returns-6
 returns-6 c =
     let k : tie.At-match2-keys3 = c .before .before .before .before in
     rw (c .of6 .ensures)
-    (mcs-locks (here (k .before)) _ _ _ _ _ (search needs) (c .before .before .before .with-locked .ensures _) (c .before .before .goes3 .ensures) (ap (toldOf _) (c .before .later3 .ensures)))
+    (mcs-locks (here (k .before)) _ _ _ _ _ (k .match2 .keys3) (c .before .before .before .with-locked .ensures _) (c .before .before .goes3 .ensures) (ap (toldOf _) (c .before .later3 .ensures)))
 
 with-next-requires-2 : tie.Need-with-next-requires-2
 unfolding view
@@ -88,61 +89,55 @@ unfolding view
 returns-7 c =
     let k : tie.At-match2-keys4 = c .before .before .before .before .before in
     rw (c .of7 .ensures)
-    (mcs-links (here (k .before)) _ _ _ _ _ (search needs) (c .before .before .before .with-next2 .ensures _) (c .before .before .goes4 .ensures) (ap (toldOf _) (c .before .later4 .ensures)))
+    (mcs-links (here (k .before)) _ _ _ _ _ (k .match2 .keys4) (c .before .before .before .with-next2 .ensures _) (c .before .before .goes4 .ensures) (ap (toldOf _) (c .before .later4 .ensures)))
 
 returns-8 : tie.Need-returns-8
 unfolding view
 returns-8 c =
     let b : tie.Then2 = c .before .before .before in
     rw (c .of8 .ensures)
-    (mcs-granted (here (b .before .before .before)) _ _ _ _ _ (search needs) (search needs) refl (c .before .before .granted2 .ensures) (ap (toldOf _) (c .before .later5 .ensures)))
+    (mcs-granted (here (b .before .before .before)) _ _ _ _ _ (b .before .before .match2 .keys5) (b .if2 .taken) refl (c .before .before .granted2 .ensures) (ap (toldOf _) (c .before .later5 .ensures)))
 
 returns-9 : tie.Need-returns-9
 unfolding view
 returns-9 c =
     let b : tie.Else2 = c .before .before in
     rw (c .of9 .ensures)
-    (mcs-spins (here (b .before .before .before)) _ _ _ _ _ (search needs) (search needs) refl refl (ap (toldOf _) (c .before .spin .ensures)))
+    (mcs-spins (here (b .before .before .before)) _ _ _ _ _ (b .before .before .match2 .keys5) (b .if2 .left) refl refl (ap (toldOf _) (c .before .spin .ensures)))
 
 returns-10 : tie.Need-returns-10
 unfolding view
 returns-10 c =
-    let b : tie.Then3 = c .before .before .before in
+    let b : tie.Then3 = c .before .before .before .before in
     rw (c .of10 .ensures)
-    (mcs-alone (here (b .before .before .before)) _ _ _ _ _ (search needs) (search needs) refl (c .before .before .goes5 .ensures) (ap (toldOf _) (c .before .later6 .ensures)))
+    (mcs-finds (here (b .before .before .before)) _ _ _ _ _ (b .before .before .match2 .keys6) (b .if3 .taken) (c .before .before .before .with-succ .ensures _) (c .before .before .goes5 .ensures) (ap (toldOf _) (c .before .later6 .ensures)))
 
 returns-11 : tie.Need-returns-11
 unfolding view
 returns-11 c =
-    let b : tie.Else3 = c .before .before .before .before in
+    let b : tie.Then4 = c .before .before .before in
     rw (c .of11 .ensures)
-    (mcs-finds (here (b .before .before .before)) _ _ _ _ _ (search needs) (search needs) (c .before .before .before .with-succ .ensures _) (c .before .before .goes6 .ensures) (ap (toldOf _) (c .before .later7 .ensures)))
+    (mcs-alone (here (b .before .before .before .before)) _ _ _ _ _ (b .if4 .taken) (b .before .if3 .left) refl (c .before .before .goes6 .ensures) (ap (toldOf _) (c .before .later7 .ensures)))
 
 returns-12 : tie.Need-returns-12
+unfolding view
 returns-12 c =
-    let b : tie.Then4 = c .before .before .before in
+    let b : tie.Else4 = c .before .before in
+    let k : tie.At-match2-keys6 = b .before .before .before in
     rw (c .of12 .ensures)
-    (mcs-drains (here (b .before .before)) _ _ _ _ _ (search needs) (search needs) refl (c .before .before .over .ensures) (ap (toldOf _) (c .before .last .ensures)))
+    (mcs-rereads (here (k .before)) _ _ _ _ _ (elim (k .match2 .keys6) [ inl e ↦ absurd (b .if4 .left e) | inr e ↦ e ]) (b .before .if3 .left) refl refl (ap (toldOf _) (c .before .spin2 .ensures)))
 
 returns-13 : tie.Need-returns-13
 returns-13 c =
-    let b : tie.Else4 = c .before .before .before in
+    let b : tie.Then5 = c .before .before .before in
     rw (c .of13 .ensures)
-    (mcs-fails (here (b .before .before)) _ _ _ _ _ (search needs) (search needs) refl (c .before .before .goes7 .ensures) (ap (toldOf _) (c .before .later8 .ensures)))
+    (mcs-drains (here (b .before .before)) _ _ _ _ _ (b .before .match2 .keys7) (b .if5 .taken) refl (c .before .before .over .ensures) (ap (toldOf _) (c .before .last .ensures)))
 
 returns-14 : tie.Need-returns-14
-unfolding view
 returns-14 c =
-    let b : tie.Then5 = c .before .before in
+    let b : tie.Else5 = c .before .before .before in
     rw (c .of14 .ensures)
-    (mcs-rereads (here (b .before .before .before)) _ _ _ _ _ (search needs) (search needs) refl refl (ap (toldOf _) (c .before .spin2 .ensures)))
-
-returns-15 : tie.Need-returns-15
-unfolding view
-returns-15 c =
-    let b : tie.Else5 = c .before .before .before .before in
-    rw (c .of15 .ensures)
-    (mcs-meets (here (b .before .before .before)) _ _ _ _ _ (search needs) (search needs) (c .before .before .before .with-succ2 .ensures _) (c .before .before .goes8 .ensures) (ap (toldOf _) (c .before .later9 .ensures)))
+    (mcs-fails (here (b .before .before)) _ _ _ _ _ (b .before .match2 .keys7) (b .if5 .left) refl (c .before .before .goes7 .ensures) (ap (toldOf _) (c .before .later8 .ensures)))
 
 with-locked-requires-2 : tie.Need-with-locked-requires-2
 unfolding view
@@ -156,11 +151,11 @@ cast-last c =
     let z : tie.Start = search needs in
     omega (arith, z .pre .2 .succ (z .args .w))
 
-returns-16 : tie.Need-returns-16
+returns-15 : tie.Need-returns-15
 unfolding view
-returns-16 c =
+returns-15 c =
     let k : tie.At-match2-rest = c .before .before .before .before .before in
-    rw (c .of16 .ensures)
+    rw (c .of15 .ensures)
     (mcs-wakes (here (k .before)) _ _ _ _ _ (rest k) (c .before .before .before .with-locked2 .ensures _) (c .before .before .over2 .ensures) (ap (toldOf _) (c .before .last2 .ensures)))
 
 pub turn-spec : {M : Type 1} → statement M
@@ -180,14 +175,12 @@ turn-spec =
     (λ c κs. search needs) (λ c κs. search needs) returns-7
     (λ c. search needs) (λ c κs. search needs) (λ c κs. search needs) (λ c κs. search needs) returns-8
     (λ c κs. search needs) (λ c κs. search needs) returns-9
-    (λ c. search needs) (λ c κs. search needs) (λ c κs. search needs) (λ c κs. search needs) returns-10
-    (λ c. search needs) (λ c κs. search needs) (λ c κs. search needs) (λ c κs. search needs) (λ c κs. search needs)
-    returns-11
-    (λ c. search needs) (λ c κs. search needs) (λ c κs. search needs) (λ c κs. search needs) returns-12
-    (λ c κs. search needs) (λ c κs. search needs) (λ c κs. search needs) returns-13
-    (λ c. search needs) (λ c κs. search needs) (λ c κs. search needs) returns-14
-    (λ c. search needs) (λ c κs. search needs) (λ c κs. search needs) (λ c κs. search needs) (λ c κs. search needs)
-    returns-15
+    (λ c. search needs) (λ c. search needs) (λ c κs. search needs) (λ c κs. search needs) (λ c κs. search needs) (λ c κs. search needs)
+    returns-10
+    (λ c κs. search needs) (λ c κs. search needs) (λ c κs. search needs) returns-11
+    (λ c κs. search needs) (λ c κs. search needs) returns-12
+    (λ c. search needs) (λ c κs. search needs) (λ c κs. search needs) (λ c κs. search needs) returns-13
+    (λ c κs. search needs) (λ c κs. search needs) (λ c κs. search needs) returns-14
     (λ c. search needs) (λ c. search needs) with-locked-requires-2
     (λ c κs. search needs) cast-last
-    (λ c κs. search needs) (λ c κs. search needs) returns-16)
+    (λ c κs. search needs) (λ c κs. search needs) returns-15)
