@@ -1,11 +1,13 @@
 // Reads the files of standard input by `text::read` and prints what each gave; tools/readings makes the input and what has to come out.
 // The input: how many files; for each five numbers (the schedule's room, and the lengths of head, row, middle and tail), then the bytes
 // of head, row and tail, and a line feed. `touched` and `not bare` are printed where a reading broke what document 01 says of the lent
-// schedule and of refusals.
+// schedule and of refusals, and `not back` where an accepted file is not written as it was read.
+mod back;
 mod input;
 mod lines;
 mod sum;
 
+use back::BLANK;
 use input::Parts;
 use libc::STDOUT_FILENO;
 use settings::MOST_PROCS;
@@ -19,6 +21,9 @@ const MOST_BYTES: usize = 400000;
 const MOST_LENGTH: usize = 51000;
 
 const MOST_ROOM: usize = 16400;
+
+// One byte more than the longest file.
+const MOST_BACK: usize = 51001;
 
 // A number that no turn has.
 const MARK: u16 = 9999;
@@ -85,11 +90,25 @@ fn show(a: ReadAnswer, schedule: &[u16]) {
     }
 }
 
+// Writes back what was accepted.
+fn write_back(a: ReadAnswer, schedule: &[u16], file: &[u8]) {
+    let s = a.settings;
+    if a.number != 0 {
+        return;
+    }
+    let mut out = [BLANK; MOST_BACK];
+    let written = at_most(a.count, schedule.len());
+    if !back::is_back(s, &schedule[0..written], file, &mut out) {
+        io::write_all(STDOUT_FILENO, b"not back\n");
+    }
+}
+
 // Reads the file whose bytes are stored from a place on, in a row and a schedule that are lent for it.
 fn read_in(given: &[u8], at: usize, p: Parts, file: &mut [u8], schedule: &mut [u16]) {
     input::set_file(given, at, p, file);
     let a = text::read(file, schedule);
     show(a, schedule);
+    write_back(a, schedule, file);
 }
 
 // Reads the file at a place and answers the place of the next.
