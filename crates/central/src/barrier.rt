@@ -77,12 +77,6 @@ impl Gate {
 }
 
 impl Central {
-    fn of(gate: Gate, course: Course, made: Made) -> Central
-        ensures { λ r. ⌜ r ≡ record { gate = gate; course = course; made = made } ⌝ }
-    {
-        Central { gate, course, made }
-    }
-
     pub(crate) fn start(procs: u16) -> Central
         ensures { λ r. ⌜ Starts machine (λ s. s .procs ≡ procs) (stateOf r) (courseIn r) ⌝ }
     {
@@ -91,7 +85,11 @@ impl Central {
             count: procs,
             sense: 1,
         };
-        Central::of(gate, Course::start(), made::none(0, false))
+        Central {
+            gate,
+            course: Course::start(),
+            made: made::none(0, false),
+        }
     }
 
     // Processor w's turn.
@@ -105,10 +103,18 @@ impl Central {
         let due = course.due(i, rounds);
         let step = match due {
             Due::Hold => {
-                return Central::of(gate, course.held(i), made::none(w, false));
+                return Central {
+                    gate,
+                    course: course.held(i),
+                    made: made::none(w, false),
+                };
             }
             Due::Idle => {
-                return Central::of(gate, course, made::none(w, true));
+                return Central {
+                    gate,
+                    course,
+                    made: made::none(w, true),
+                };
             }
             Due::Step(step) => step,
         };
@@ -116,38 +122,46 @@ impl Central {
         match step {
             1 => {
                 if gate.count == 1 {
-                    return Central::of(
-                        gate.counts(i),
-                        course.goes(i, 2),
-                        made::first(home, made::ARRIVE),
-                    );
+                    return Central {
+                        gate: gate.counts(i),
+                        course: course.goes(i, 2),
+                        made: made::first(home, made::ARRIVE),
+                    };
                 }
-                return Central::of(
-                    gate.counts(i),
-                    course.goes(i, 4),
-                    made::first(home, made::ARRIVE),
-                );
+                return Central {
+                    gate: gate.counts(i),
+                    course: course.goes(i, 4),
+                    made: made::first(home, made::ARRIVE),
+                };
             }
             2 => {
-                return Central::of(
-                    gate.resets(procs),
-                    course.goes(i, 3),
-                    made::later(home, 0, 0),
-                );
+                return Central {
+                    gate: gate.resets(procs),
+                    course: course.goes(i, 3),
+                    made: made::later(home, 0, 0),
+                };
             }
             3 => {
-                return Central::of(
-                    gate.opens(i),
-                    course.leaves(i, hold),
-                    made::last(home, made::LEAVE),
-                );
+                return Central {
+                    gate: gate.opens(i),
+                    course: course.leaves(i, hold),
+                    made: made::last(home, made::LEAVE),
+                };
             }
             _ => {
                 let local = gate.local;
                 if gate.sense == local[i] {
-                    return Central::of(gate, course.leaves(i, hold), made::last(home, made::LEAVE));
+                    return Central {
+                        gate,
+                        course: course.leaves(i, hold),
+                        made: made::last(home, made::LEAVE),
+                    };
                 }
-                return Central::of(gate, course, made::spin(home));
+                return Central {
+                    gate,
+                    course,
+                    made: made::spin(home),
+                };
             }
         }
     }

@@ -123,16 +123,6 @@ impl Flags {
 }
 
 impl Dissem {
-    fn of(flags: Flags, course: Course, made: Made) -> Dissem
-        ensures { λ r. ⌜ r ≡ record { flags = flags; course = course; made = made } ⌝ }
-    {
-        Dissem {
-            flags,
-            course,
-            made,
-        }
-    }
-
     pub(crate) fn start() -> Dissem
         ensures { λ r. ⌜ Starts machine (λ s. Unit {0}) (stateOf r) (courseIn r) × ((levels : ℕ) → Sound levels (stateOf r) (courseIn r)) ⌝ }
     {
@@ -141,7 +131,11 @@ impl Dissem {
             gap: 0,
             own: [1; 64],
         };
-        Dissem::of(flags, Course::start(), made::none(0, false))
+        Dissem {
+            flags,
+            course: Course::start(),
+            made: made::none(0, false),
+        }
     }
 
     // Processor w's turn. levels: R.
@@ -155,10 +149,18 @@ impl Dissem {
         let due = course.due(i, rounds);
         let step = match due {
             Due::Hold => {
-                return Dissem::of(flags, course.held(i), made::none(w, false));
+                return Dissem {
+                    flags,
+                    course: course.held(i),
+                    made: made::none(w, false),
+                };
             }
             Due::Idle => {
-                return Dissem::of(flags, course, made::none(w, true));
+                return Dissem {
+                    flags,
+                    course,
+                    made: made::none(w, true),
+                };
             }
             Due::Step(step) => step,
         };
@@ -168,25 +170,37 @@ impl Dissem {
         if step == 2 {
             let words = flags.flags;
             if bit(words[i], variable(o)) != sense(o) {
-                return Dissem::of(flags, course, made::spin(w));
+                return Dissem {
+                    flags,
+                    course,
+                    made: made::spin(w),
+                };
             }
             if o / 4 + 1 == levels {
-                return Dissem::of(
-                    flags.leaves(i),
-                    course.leaves(i, hold),
-                    made::last(w, made::LEAVE),
-                );
+                return Dissem {
+                    flags: flags.leaves(i),
+                    course: course.leaves(i, hold),
+                    made: made::last(w, made::LEAVE),
+                };
             }
-            return Dissem::of(flags.goes_on(i), course.goes(i, 3), made::later(w, 0, 0));
+            return Dissem {
+                flags: flags.goes_on(i),
+                course: course.goes(i, 3),
+                made: made::later(w, 0, 0),
+            };
         }
         if procs == 1 {
-            return Dissem::of(flags, course.leaves(i, hold), made::alone(w));
+            return Dissem {
+                flags,
+                course: course.leaves(i, hold),
+                made: made::alone(w),
+            };
         }
         let j = partner(w, o / 4, procs);
-        Dissem::of(
-            flags.tells(i, j as usize),
-            course.goes(i, 2),
-            telling(j, step),
-        )
+        Dissem {
+            flags: flags.tells(i, j as usize),
+            course: course.goes(i, 2),
+            made: telling(j, step),
+        }
     }
 }

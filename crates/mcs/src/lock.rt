@@ -97,17 +97,6 @@ impl Nodes {
 }
 
 impl Mcs {
-    fn of(nodes: Nodes, tail: u16, course: Course, made: Made) -> Mcs
-        ensures { λ r. ⌜ r ≡ record { nodes = nodes; tail = tail; course = course; made = made } ⌝ }
-    {
-        Mcs {
-            nodes,
-            tail,
-            course,
-            made,
-        }
-    }
-
     pub(crate) fn start() -> Mcs
         ensures { λ r. ⌜ Starts machine (λ s. Unit {0}) (stateOf r) (courseIn r) × Sound (stateOf r) ⌝ }
     {
@@ -117,7 +106,12 @@ impl Mcs {
             pred: [0; 64],
             succ: [0; 64],
         };
-        Mcs::of(nodes, 0, Course::start(), made::none(0, false))
+        Mcs {
+            nodes,
+            tail: 0,
+            course: Course::start(),
+            made: made::none(0, false),
+        }
     }
 
     // Processor w's turn.
@@ -132,101 +126,136 @@ impl Mcs {
         let due = course.due(i, rounds);
         let step = match due {
             Due::Hold => {
-                return Mcs::of(nodes, tail, course.held(i), made::none(w, false));
+                return Mcs {
+                    nodes,
+                    tail,
+                    course: course.held(i),
+                    made: made::none(w, false),
+                };
             }
             Due::Idle => {
-                return Mcs::of(nodes, tail, course, made::none(w, true));
+                return Mcs {
+                    nodes,
+                    tail,
+                    course,
+                    made: made::none(w, true),
+                };
             }
             Due::Step(step) => step,
         };
         // Every arm returns: the state is then copied nowhere.
         match step {
             1 => {
-                return Mcs::of(
-                    nodes.with_next(i, 0),
+                return Mcs {
+                    nodes: nodes.with_next(i, 0),
                     tail,
-                    course.goes(i, 2),
-                    made::first(w, 0),
-                );
+                    course: course.goes(i, 2),
+                    made: made::first(w, 0),
+                };
             }
             2 => {
                 if tail == 0 {
-                    return Mcs::of(
+                    return Mcs {
                         nodes,
-                        w + 1,
-                        course.granted(i, 7, hold),
-                        made::later(home, made::JOIN, made::GRANT),
-                    );
+                        tail: w + 1,
+                        course: course.granted(i, 7, hold),
+                        made: made::later(home, made::JOIN, made::GRANT),
+                    };
                 }
-                return Mcs::of(
-                    nodes.with_pred(i, (tail - 1) as u8),
-                    w + 1,
-                    course.goes(i, 3),
-                    made::later(home, made::JOIN, 0),
-                );
+                return Mcs {
+                    nodes: nodes.with_pred(i, (tail - 1) as u8),
+                    tail: w + 1,
+                    course: course.goes(i, 3),
+                    made: made::later(home, made::JOIN, 0),
+                };
             }
             3 => {
-                return Mcs::of(
-                    nodes.with_locked(i, 1),
+                return Mcs {
+                    nodes: nodes.with_locked(i, 1),
                     tail,
-                    course.goes(i, 4),
-                    made::later(w, 0, 0),
-                );
+                    course: course.goes(i, 4),
+                    made: made::later(w, 0, 0),
+                };
             }
             4 => {
                 let pred = nodes.pred;
                 let p = pred[i];
-                return Mcs::of(
-                    nodes.with_next(p as usize, (w + 1) as u8),
+                return Mcs {
+                    nodes: nodes.with_next(p as usize, (w + 1) as u8),
                     tail,
-                    course.goes(i, 5),
-                    made::later(p as u16, 0, 0),
-                );
+                    course: course.goes(i, 5),
+                    made: made::later(p as u16, 0, 0),
+                };
             }
             5 => {
                 let locked = nodes.locked;
                 if locked[i] == 0 {
-                    return Mcs::of(
+                    return Mcs {
                         nodes,
                         tail,
-                        course.granted(i, 7, hold),
-                        made::later(w, made::GRANT, 0),
-                    );
+                        course: course.granted(i, 7, hold),
+                        made: made::later(w, made::GRANT, 0),
+                    };
                 }
-                return Mcs::of(nodes, tail, course, made::spin(w));
+                return Mcs {
+                    nodes,
+                    tail,
+                    course,
+                    made: made::spin(w),
+                };
             }
             // Figure 5 reads next in two places. Nil leads on to the compare-and-swap at 7, and is a spin at 9.
             7 | 9 => {
                 let next = nodes.next;
                 let n = next[i];
                 if n != 0 {
-                    return Mcs::of(
-                        nodes.with_succ(i, n - 1),
+                    return Mcs {
+                        nodes: nodes.with_succ(i, n - 1),
                         tail,
-                        course.goes(i, 10),
-                        made::later(w, 0, 0),
-                    );
+                        course: course.goes(i, 10),
+                        made: made::later(w, 0, 0),
+                    };
                 }
                 if step == 7 {
-                    return Mcs::of(nodes, tail, course.goes(i, 8), made::later(w, 0, 0));
+                    return Mcs {
+                        nodes,
+                        tail,
+                        course: course.goes(i, 8),
+                        made: made::later(w, 0, 0),
+                    };
                 }
-                return Mcs::of(nodes, tail, course, made::spin(w));
+                return Mcs {
+                    nodes,
+                    tail,
+                    course,
+                    made: made::spin(w),
+                };
             }
             8 => {
                 if tail == w + 1 {
-                    return Mcs::of(nodes, 0, course.over(i), made::last(home, made::RELEASE));
+                    return Mcs {
+                        nodes,
+                        tail: 0,
+                        course: course.over(i),
+                        made: made::last(home, made::RELEASE),
+                    };
                 }
-                return Mcs::of(nodes, tail, course.goes(i, 9), made::later(home, 0, 0));
+                return Mcs {
+                    nodes,
+                    tail,
+                    course: course.goes(i, 9),
+                    made: made::later(home, 0, 0),
+                };
             }
             _ => {
                 let succ = nodes.succ;
                 let q = succ[i];
-                return Mcs::of(
-                    nodes.with_locked(q as usize, 0),
+                return Mcs {
+                    nodes: nodes.with_locked(q as usize, 0),
                     tail,
-                    course.over(i),
-                    made::last(q as u16, made::RELEASE),
-                );
+                    course: course.over(i),
+                    made: made::last(q as u16, made::RELEASE),
+                };
             }
         }
     }

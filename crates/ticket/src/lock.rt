@@ -54,12 +54,6 @@ impl Lock {
 }
 
 impl Ticket {
-    fn of(lock: Lock, course: Course, made: Made) -> Ticket
-        ensures { λ r. ⌜ r ≡ record { lock = lock; course = course; made = made } ⌝ }
-    {
-        Ticket { lock, course, made }
-    }
-
     pub(crate) fn start(ticket: u16) -> Ticket
         ensures { λ r. ⌜ Starts machine (λ s. s .ticket ≡ ticket) (stateOf r) (courseIn r) ⌝ }
     {
@@ -68,7 +62,11 @@ impl Ticket {
             request: ticket,
             release: ticket,
         };
-        Ticket::of(lock, Course::start(), made::none(0, false))
+        Ticket {
+            lock,
+            course: Course::start(),
+            made: made::none(0, false),
+        }
     }
 
     // Processor w's turn.
@@ -82,39 +80,51 @@ impl Ticket {
         let due = course.due(i, rounds);
         let step = match due {
             Due::Hold => {
-                return Ticket::of(lock, course.held(i), made::none(w, false));
+                return Ticket {
+                    lock,
+                    course: course.held(i),
+                    made: made::none(w, false),
+                };
             }
             Due::Idle => {
-                return Ticket::of(lock, course, made::none(w, true));
+                return Ticket {
+                    lock,
+                    course,
+                    made: made::none(w, true),
+                };
             }
             Due::Step(step) => step,
         };
         // Every arm returns: the state is then copied nowhere.
         match step {
             1 => {
-                return Ticket::of(
-                    lock.asks(i),
-                    course.goes(i, 2),
-                    made::first(home, made::JOIN),
-                );
+                return Ticket {
+                    lock: lock.asks(i),
+                    course: course.goes(i, 2),
+                    made: made::first(home, made::JOIN),
+                };
             }
             2 => {
                 let mine = lock.mine;
                 if lock.release == mine[i] {
-                    return Ticket::of(
+                    return Ticket {
                         lock,
-                        course.granted(i, 3, hold),
-                        made::later(home, made::GRANT, 0),
-                    );
+                        course: course.granted(i, 3, hold),
+                        made: made::later(home, made::GRANT, 0),
+                    };
                 }
-                return Ticket::of(lock, course, made::spin(home));
+                return Ticket {
+                    lock,
+                    course,
+                    made: made::spin(home),
+                };
             }
             _ => {
-                return Ticket::of(
-                    lock.frees(),
-                    course.over(i),
-                    made::last(home, made::RELEASE),
-                );
+                return Ticket {
+                    lock: lock.frees(),
+                    course: course.over(i),
+                    made: made::last(home, made::RELEASE),
+                };
             }
         }
     }

@@ -24,78 +24,69 @@ returns c =
     let d : tie.After-due = search needs in
     let h : tie.After-held = search needs in
     let n : tie.After-none = search needs in
-    rw (c .of .ensures)
-    (turns-hold machine _ _ _ _ _ _ (d .due .result) (d .due .ensures) _ _ _ (search needs) refl (h .held .ensures) (told-none _ _ _ (n .none .ensures)))
+    turns-hold machine _ _ _ _ _ _ (d .due .result) (d .due .ensures) _ _ _ (search needs) refl (h .held .ensures) (told-none _ _ _ (n .none .ensures))
 
 returns-2 : tie.Need-returns-2
 returns-2 c =
     let d : tie.After-due = search needs in
     let n : tie.After-none2 = search needs in
-    rw (c .of2 .ensures)
-    (turns-idle machine _ _ _ _ _ _ (d .due .result) (d .due .ensures) _ _ _ (search needs) refl refl (told-none _ _ _ (n .none2 .ensures)))
+    turns-idle machine _ _ _ _ _ _ (d .due .result) (d .due .ensures) _ _ _ (search needs) refl refl (told-none _ _ _ (n .none2 .ensures))
 
 returns-3 : tie.Need-returns-3
 returns-3 c =
-    let b : tie.Then1 = c .before .before .before .before in
+    let b : tie.Then1 = c .before .before .before in
     let a : tie.After-due2 = b .before .before .before .before in
     let d : tie.After-due = a .before .before in
-    rw (c .of3 .ensures)
-    (central-last _ _ _ _ _ _ _ (d .due .result) (d .due .ensures) (a .due2 .given .0 .0) (a .due2 .given .1) _ _ _ (b .before .before .match2 .keys1) (b .if1 .taken) (c .before .before .before .counts .ensures) (c .before .before .goes .ensures) (ap (toldOf _) (c .before .first .ensures)))
+    central-last _ _ _ _ _ _ _ (d .due .result) (d .due .ensures) (a .due2 .given .0 .0) (a .due2 .given .1) _ _ _ (b .before .before .match2 .keys1) (b .if1 .taken) (c .before .before .counts .ensures) (c .before .goes .ensures) (ap (toldOf _) (c .first .ensures))
 
 returns-4 : tie.Need-returns-4
 returns-4 c =
-    let b : tie.Else1 = c .before .before .before .before in
+    let b : tie.Else1 = c .before .before .before in
     let a : tie.After-due2 = b .before .before .before .before in
     let d : tie.After-due = a .before .before in
-    rw (c .of4 .ensures)
-    (central-early _ _ _ _ _ _ _ (d .due .result) (d .due .ensures) (a .due2 .given .0 .0) (a .due2 .given .1) _ _ _ (b .before .before .match2 .keys1) (b .if1 .left) (c .before .before .before .counts2 .ensures) (c .before .before .goes2 .ensures) (ap (toldOf _) (c .before .first2 .ensures)))
+    central-early _ _ _ _ _ _ _ (d .due .result) (d .due .ensures) (a .due2 .given .0 .0) (a .due2 .given .1) _ _ _ (b .before .before .match2 .keys1) (b .if1 .left) (c .before .before .counts2 .ensures) (c .before .goes2 .ensures) (ap (toldOf _) (c .first2 .ensures))
 
 returns-5 : tie.Need-returns-5
 returns-5 c =
-    let k : tie.At-match2-keys2 = c .before .before .before .before in
+    let k : tie.At-match2-keys2 = c .before .before .before in
     let a : tie.After-due2 = k .before .before in
     let d : tie.After-due = a .before .before in
-    rw (c .of5 .ensures)
-    (central-resets _ _ _ _ _ _ _ (d .due .result) (d .due .ensures) (a .due2 .given .0 .0) (a .due2 .given .1) _ _ _ (k .match2 .keys2) (c .before .before .before .resets .ensures) (c .before .before .goes3 .ensures) (ap (toldOf _) (c .before .later .ensures)))
+    central-resets _ _ _ _ _ _ _ (d .due .result) (d .due .ensures) (a .due2 .given .0 .0) (a .due2 .given .1) _ _ _ (k .match2 .keys2) (c .before .before .resets .ensures) (c .before .goes3 .ensures) (ap (toldOf _) (c .later .ensures))
 
 returns-6 : tie.Need-returns-6
 returns-6 c =
-    let k : tie.At-match2-keys3 = c .before .before .before .before in
+    let k : tie.At-match2-keys3 = c .before .before .before in
     let a : tie.After-due2 = k .before .before in
     let d : tie.After-due = a .before .before in
-    rw (c .of6 .ensures)
-    (central-opens _ _ _ _ _ _ _ (d .due .result) (d .due .ensures) (a .due2 .given .0 .0) (a .due2 .given .1) _ _ _ (k .match2 .keys3) (c .before .before .before .opens .ensures) (c .before .before .leaves .ensures) (ap (toldOf _) (c .before .last .ensures)))
+    central-opens _ _ _ _ _ _ _ (d .due .result) (d .due .ensures) (a .due2 .given .0 .0) (a .due2 .given .1) _ _ _ (k .match2 .keys3) (c .before .before .opens .ensures) (c .before .leaves .ensures) (ap (toldOf _) (c .last .ensures))
 
 returns-7 : tie.Need-returns-7
 returns-7 c =
-    let b : tie.Then2 = c .before .before .before in
+    let b : tie.Then2 = c .before .before in
     let k : tie.At-match2-rest = b .before .before .before in
     let a : tie.After-due2 = k .before .before in
     let d : tie.After-due = a .before .before in
     let not = k .match2 .rest in
-    rw (c .of7 .ensures)
-    (central-leaves _ _ _ _ _ _ _ (d .due .result) (d .due .ensures) (a .due2 .given .0 .0) (a .due2 .given .1) _ _ _ (not .0 .0 .1) (not .0 .1) (not .1) (rw (view-at 1 (place (d .before .before .before))) (b .if2 .taken)) refl (c .before .before .leaves2 .ensures) (ap (toldOf _) (c .before .last2 .ensures)))
+    central-leaves _ _ _ _ _ _ _ (d .due .result) (d .due .ensures) (a .due2 .given .0 .0) (a .due2 .given .1) _ _ _ (not .0 .0 .1) (not .0 .1) (not .1) (rw (view-at 1 (place (d .before .before .before))) (b .if2 .taken)) refl (c .before .leaves2 .ensures) (ap (toldOf _) (c .last2 .ensures))
 
 returns-8 : tie.Need-returns-8
 returns-8 c =
-    let b : tie.Else2 = c .before .before in
+    let b : tie.Else2 = c .before in
     let k : tie.At-match2-rest = b .before .before .before in
     let a : tie.After-due2 = k .before .before in
     let d : tie.After-due = a .before .before in
     let not = k .match2 .rest in
-    rw (c .of8 .ensures)
-    (central-spins _ _ _ _ _ _ _ (d .due .result) (d .due .ensures) (a .due2 .given .0 .0) (a .due2 .given .1) _ _ _ (not .0 .0 .1) (not .0 .1) (not .1) (rw (view-at 1 (place (d .before .before .before))) (b .if2 .left)) refl refl (ap (toldOf _) (c .before .spin .ensures)))
+    central-spins _ _ _ _ _ _ _ (d .due .result) (d .due .ensures) (a .due2 .given .0 .0) (a .due2 .given .1) _ _ _ (not .0 .0 .1) (not .0 .1) (not .1) (rw (view-at 1 (place (d .before .before .before))) (b .if2 .left)) refl refl (ap (toldOf _) (c .spin .ensures))
 
 pub turn-spec : {M : Type 1} → statement M
 turn-spec =
     tie.close
     (tie.spec (λ c κs. search needs) (λ c. search needs) held-requires
-    (λ c κs. search needs) (λ c κs. search needs) returns
-    (λ c. search needs) (λ c κs. search needs) (λ c κs. search needs) returns-2
-    (λ c. search needs) (λ c κs. search needs) (λ c κs. search needs) (λ c κs. search needs) (λ c κs. search needs)
-    returns-3
-    (λ c κs. search needs) (λ c κs. search needs) (λ c κs. search needs) (λ c κs. search needs) returns-4
-    (λ c κs. search needs) (λ c κs. search needs) (λ c κs. search needs) (λ c κs. search needs) returns-5
-    (λ c κs. search needs) (λ c κs. search needs) (λ c κs. search needs) (λ c κs. search needs) returns-6
-    (λ c. search needs) (λ c κs. search needs) (λ c κs. search needs) (λ c κs. search needs) returns-7
-    (λ c κs. search needs) (λ c κs. search needs) returns-8)
+    (λ c κs. search needs) returns
+    (λ c. search needs) (λ c κs. search needs) returns-2
+    (λ c. search needs) (λ c κs. search needs) (λ c κs. search needs) (λ c κs. search needs) returns-3
+    (λ c κs. search needs) (λ c κs. search needs) (λ c κs. search needs) returns-4
+    (λ c κs. search needs) (λ c κs. search needs) (λ c κs. search needs) returns-5
+    (λ c κs. search needs) (λ c κs. search needs) (λ c κs. search needs) returns-6
+    (λ c. search needs) (λ c κs. search needs) (λ c κs. search needs) returns-7
+    (λ c κs. search needs) returns-8)

@@ -9,8 +9,7 @@ use Rattle.dissem.proofs.barrier.Dissem.start.Tie as tie
 
 returns : tie.Need-returns
 returns c =
-    let k : tie.After-start = search needs in
-    rw (c .of .ensures) (
+    let k : tie.After-start = search needs in (
       record { memory = λ s p. first-flags s; outset = k .start .ensures },
       λ levels. sound-first levels _ _ (λ j. ap (λ (y : Course). y .at j) (k .start .ensures)) first-round,
     )
@@ -18,4 +17,4 @@ returns c =
 pub start-spec : {M : Type 1} → statement M
 start-spec =
     tie.close
-    (tie.spec (λ c κs. search needs) (λ c κs. search needs) (λ c κs. search needs) returns)
+    (tie.spec (λ c κs. search needs) (λ c κs. search needs) returns)

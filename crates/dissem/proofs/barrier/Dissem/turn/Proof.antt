@@ -38,15 +38,13 @@ returns : tie.Need-returns
 returns c =
     let z : tie.Start = search needs in
     let d : tie.After-due = search needs in
-    rw (c .of .ensures)
-    (dissem-holds _ _ _ _ _ _ _ (z .pre .4) (d .due .result) (d .due .ensures) _ _ _ (search needs) refl (c .before .before .held .ensures) (told-none _ _ _ (c .before .none .ensures)))
+    dissem-holds _ _ _ _ _ _ _ (z .pre .4) (d .due .result) (d .due .ensures) _ _ _ (search needs) refl (c .before .held .ensures) (told-none _ _ _ (c .none .ensures))
 
 returns-2 : tie.Need-returns-2
 returns-2 c =
     let z : tie.Start = search needs in
     let d : tie.After-due = search needs in
-    rw (c .of2 .ensures)
-    (dissem-idles _ _ _ _ _ _ _ (z .pre .4) (d .due .result) (d .due .ensures) _ _ _ (search needs) refl refl (told-none _ _ _ (c .before .none2 .ensures)))
+    dissem-idles _ _ _ _ _ _ _ (z .pre .4) (d .due .result) (d .due .ensures) _ _ _ (search needs) refl refl (told-none _ _ _ (c .none2 .ensures))
 
 bit-requires : tie.Need-bit-requires
 bit-requires c κs =
@@ -59,26 +57,24 @@ bit-requires c κs =
 
 returns-3 : tie.Need-returns-3
 returns-3 c =
-    let s : tie.After-sense = c .before .before .before in
+    let s : tie.After-sense = c .before .before in
     let v : tie.After-variable = s .before .before in
     let a : tie.After-due2 = v .before .before .before .before .before in
     let z : tie.Start = a .before .before .before .before .before in
     let flag = read-flag (word-place z) (own-place z) (v .variable .ensures) (s .before .bit .ensures) in
     let own = read-sense (own-place z) (s .sense .ensures) in
-    rw (c .of3 .ensures)
-    (dissem-spins (here a) _ _ _ _ (v .before .before .if1 .taken) (λ e. c .before .before .if2 .taken (sym flag ∙ e ∙ own)) refl refl (ap (toldOf _) (c .before .spin .ensures)))
+    dissem-spins (here a) _ _ _ _ (v .before .before .if1 .taken) (λ e. c .before .if2 .taken (sym flag ∙ e ∙ own)) refl refl (ap (toldOf _) (c .spin .ensures))
 
 returns-4 : tie.Need-returns-4
 returns-4 c =
-    let b : tie.Then3 = c .before .before .before .before in
+    let b : tie.Then3 = c .before .before .before in
     let s : tie.After-sense = b .before .before in
     let v : tie.After-variable = s .before .before in
     let a : tie.After-due2 = v .before .before .before .before .before in
     let z : tie.Start = a .before .before .before .before .before in
     let flag = read-flag (word-place z) (own-place z) (v .variable .ensures) (s .before .bit .ensures) in
     let own = read-sense (own-place z) (s .sense .ensures) in
-    rw (c .of4 .ensures)
-    (dissem-leaves (here a) _ _ _ _ (v .before .before .if1 .taken) (flag ∙ b .before .if2 .left ∙ sym own) (rw (view-at 1 (own-place z)) (b .if3 .taken)) (c .before .before .before .leaves .ensures) (c .before .before .leaves2 .ensures) (ap (toldOf _) (c .before .last .ensures)))
+    dissem-leaves (here a) _ _ _ _ (v .before .before .if1 .taken) (flag ∙ b .before .if2 .left ∙ sym own) (rw (view-at 1 (own-place z)) (b .if3 .taken)) (c .before .before .leaves .ensures) (c .before .leaves2 .ensures) (ap (toldOf _) (c .last .ensures))
 
 goes-on-requires : tie.Need-goes-on-requires
 goes-on-requires c κs =
@@ -87,23 +83,21 @@ goes-on-requires c κs =
 
 returns-5 : tie.Need-returns-5
 returns-5 c =
-    let b : tie.Else3 = c .before .before .before .before in
+    let b : tie.Else3 = c .before .before .before in
     let s : tie.After-sense = b .before .before in
     let v : tie.After-variable = s .before .before in
     let a : tie.After-due2 = v .before .before .before .before .before in
     let z : tie.Start = a .before .before .before .before .before in
     let flag = read-flag (word-place z) (own-place z) (v .variable .ensures) (s .before .bit .ensures) in
     let own = read-sense (own-place z) (s .sense .ensures) in
-    rw (c .of5 .ensures)
-    (dissem-goes-on (here a) _ _ _ _ (v .before .before .if1 .taken) (flag ∙ b .before .if2 .left ∙ sym own) (rw (view-at 1 (own-place z)) (b .if3 .left)) (c .before .before .before .goes-on .ensures) (c .before .before .goes .ensures) (ap (toldOf _) (c .before .later .ensures)))
+    dissem-goes-on (here a) _ _ _ _ (v .before .before .if1 .taken) (flag ∙ b .before .if2 .left ∙ sym own) (rw (view-at 1 (own-place z)) (b .if3 .left)) (c .before .before .goes-on .ensures) (c .before .goes .ensures) (ap (toldOf _) (c .later .ensures))
 
 -- ---- the other steps
 
 returns-6 : tie.Need-returns-6
 returns-6 c =
-    let b : tie.Then4 = c .before .before .before in
-    rw (c .of6 .ensures)
-    (dissem-alone (here (b .before .before .before .before)) _ _ _ _ (b .if4 .taken) refl (c .before .before .leaves3 .ensures) (ap (toldOf _) (c .before .alone .ensures)))
+    let b : tie.Then4 = c .before .before in
+    dissem-alone (here (b .before .before .before .before)) _ _ _ _ (b .if4 .taken) refl (c .before .leaves3 .ensures) (ap (toldOf _) (c .alone .ensures))
 
 partner-requires : tie.Need-partner-requires
 partner-requires c κs =
@@ -118,25 +112,24 @@ tells-requires c κs =
 
 returns-7 : tie.Need-returns-7
 returns-7 c =
-    let j : tie.After-partner = c .before .before .before .before in
+    let j : tie.After-partner = c .before .before .before in
     let b : tie.Else4 = j .before in
     let a : tie.After-due2 = b .before .before .before .before in
     let z : tie.Start = a .before .before .before .before .before in
-    rw (c .of7 .ensures)
-    (dissem-tells (here a) _ _ _ _ _ (c .before .before .before .tells .ensures) (c .before .before .goes2 .ensures) (rw (view-at 1 (own-place z)) (j .partner .ensures .0)) (b .before .if1 .left) (b .if4 .left) (ap (toldOf _) (c .before .telling .ensures)))
+    dissem-tells (here a) _ _ _ _ _ (c .before .before .tells .ensures) (c .before .goes2 .ensures) (rw (view-at 1 (own-place z)) (j .partner .ensures .0)) (b .before .if1 .left) (b .if4 .left) (ap (toldOf _) (c .telling .ensures))
 
 pub turn-spec : {M : Type 1} → statement M
 turn-spec =
     tie.close
     (tie.spec (λ c κs. search needs) (λ c. search needs) held-requires
-    (λ c κs. search needs) (λ c κs. search needs) returns
-    (λ c. search needs) (λ c κs. search needs) (λ c κs. search needs) returns-2
+    (λ c κs. search needs) returns
+    (λ c. search needs) (λ c κs. search needs) returns-2
     (λ c. search needs) (λ c. search needs) (λ c. search needs) (λ c. search needs) (λ c κs. search needs) bit-requires
-    (λ c κs. search needs) (λ c κs. search needs) (λ c κs. search needs) returns-3
-    (λ c. search needs) (λ c κs. search needs) (λ c κs. search needs) (λ c κs. search needs) (λ c κs. search needs) returns-4
+    (λ c κs. search needs) (λ c κs. search needs) returns-3
+    (λ c. search needs) (λ c κs. search needs) (λ c κs. search needs) (λ c κs. search needs) returns-4
     goes-on-requires
-    (λ c κs. search needs) (λ c κs. search needs) (λ c κs. search needs) returns-5
-    (λ c κs. search needs) (λ c κs. search needs) (λ c κs. search needs) returns-6
+    (λ c κs. search needs) (λ c κs. search needs) returns-5
+    (λ c κs. search needs) (λ c κs. search needs) returns-6
     partner-requires
     (λ c. search needs) tells-requires
-    (λ c κs. search needs) (λ c κs. search needs) (λ c κs. search needs) returns-7)
+    (λ c κs. search needs) (λ c κs. search needs) returns-7)

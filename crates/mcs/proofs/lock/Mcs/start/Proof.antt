@@ -8,8 +8,7 @@ use Rattle.mcs.proofs.lock.Mcs.start.Tie as tie
 
 returns : tie.Need-returns
 returns c =
-    let k : tie.After-start = search needs in
-    rw (c .of .ensures) (
+    let k : tie.After-start = search needs in (
       record { memory = λ s p. same-state _ _ refl (view-blank 64 0) (view-blank 64 0) (view-blank 64 0) (view-blank 64 0); outset = k .start .ensures },
       sound-blank _ refl (view-blank 64 0) (view-blank 64 0) (view-blank 64 0),
     )
@@ -17,4 +16,4 @@ returns c =
 pub start-spec : {M : Type 1} → statement M
 start-spec =
     tie.close
-    (tie.spec (λ c κs. search needs) (λ c κs. search needs) (λ c κs. search needs) returns)
+    (tie.spec (λ c κs. search needs) (λ c κs. search needs) returns)

@@ -20,62 +20,54 @@ returns c =
     let d : tie.After-due = search needs in
     let h : tie.After-held = search needs in
     let n : tie.After-none = search needs in
-    rw (c .of .ensures)
-    (turns-hold machine _ _ _ _ _ _ (d .due .result) (d .due .ensures) _ _ _ (search needs) refl (h .held .ensures) (told-none _ _ _ (n .none .ensures)))
+    turns-hold machine _ _ _ _ _ _ (d .due .result) (d .due .ensures) _ _ _ (search needs) refl (h .held .ensures) (told-none _ _ _ (n .none .ensures))
 
 returns-2 : tie.Need-returns-2
 returns-2 c =
     let d : tie.After-due = search needs in
     let n : tie.After-none2 = search needs in
-    rw (c .of2 .ensures)
-    (turns-idle machine _ _ _ _ _ _ (d .due .result) (d .due .ensures) _ _ _ (search needs) refl refl (told-none _ _ _ (n .none2 .ensures)))
+    turns-idle machine _ _ _ _ _ _ (d .due .result) (d .due .ensures) _ _ _ (search needs) refl refl (told-none _ _ _ (n .none2 .ensures))
 
 returns-3 : tie.Need-returns-3
 returns-3 c =
-    let k : tie.At-match2-keys1 = c .before .before .before .before in
+    let k : tie.At-match2-keys1 = c .before .before .before in
     let a : tie.After-due2 = k .before .before in
     let d : tie.After-due = a .before .before in
-    rw (c .of3 .ensures)
-    (ticket-asks _ _ _ _ _ _ (d .due .result) (d .due .ensures) (a .due2 .given .0 .0) (a .due2 .given .1) _ _ _ (k .match2 .keys1) (c .before .before .before .asks .ensures) (c .before .before .goes .ensures) (ap (toldOf _) (c .before .first .ensures)))
+    ticket-asks _ _ _ _ _ _ (d .due .result) (d .due .ensures) (a .due2 .given .0 .0) (a .due2 .given .1) _ _ _ (k .match2 .keys1) (c .before .before .asks .ensures) (c .before .goes .ensures) (ap (toldOf _) (c .first .ensures))
 
 returns-4 : tie.Need-returns-4
 unfolding view
 returns-4 c =
-    let b : tie.Then1 = c .before .before .before in
+    let b : tie.Then1 = c .before .before in
     let k : tie.At-match2-keys2 = b .before .before .before in
     let a : tie.After-due2 = k .before .before in
     let d : tie.After-due = a .before .before in
-    rw (c .of4 .ensures)
-    (ticket-granted _ _ _ _ _ _ (d .due .result) (d .due .ensures) (a .due2 .given .0 .0) (a .due2 .given .1) _ _ _ (k .match2 .keys2) (b .if1 .taken) refl (c .before .before .granted .ensures) (ap (toldOf _) (c .before .later .ensures)))
+    ticket-granted _ _ _ _ _ _ (d .due .result) (d .due .ensures) (a .due2 .given .0 .0) (a .due2 .given .1) _ _ _ (k .match2 .keys2) (b .if1 .taken) refl (c .before .granted .ensures) (ap (toldOf _) (c .later .ensures))
 
 returns-5 : tie.Need-returns-5
 unfolding view
 returns-5 c =
-    let b : tie.Else1 = c .before .before in
+    let b : tie.Else1 = c .before in
     let k : tie.At-match2-keys2 = b .before .before .before in
     let a : tie.After-due2 = k .before .before in
     let d : tie.After-due = a .before .before in
-    rw (c .of5 .ensures)
-    (ticket-spins _ _ _ _ _ _ (d .due .result) (d .due .ensures) (a .due2 .given .0 .0) (a .due2 .given .1) _ _ _ (k .match2 .keys2) (b .if1 .left) refl refl (ap (toldOf _) (c .before .spin .ensures)))
+    ticket-spins _ _ _ _ _ _ (d .due .result) (d .due .ensures) (a .due2 .given .0 .0) (a .due2 .given .1) _ _ _ (k .match2 .keys2) (b .if1 .left) refl refl (ap (toldOf _) (c .spin .ensures))
 
 returns-6 : tie.Need-returns-6
 returns-6 c =
-    let k : tie.At-match2-rest = c .before .before .before .before in
+    let k : tie.At-match2-rest = c .before .before .before in
     let a : tie.After-due2 = k .before .before in
     let d : tie.After-due = a .before .before in
     let not = k .match2 .rest in
-    rw (c .of6 .ensures)
-    (ticket-frees _ _ _ _ _ _ (d .due .result) (d .due .ensures) (a .due2 .given .0 .0) (a .due2 .given .1) _ _ _ (not .0 .1) (not .1) (c .before .before .before .frees .ensures) (c .before .before .over .ensures) (ap (toldOf _) (c .before .last .ensures)))
+    ticket-frees _ _ _ _ _ _ (d .due .result) (d .due .ensures) (a .due2 .given .0 .0) (a .due2 .given .1) _ _ _ (not .0 .1) (not .1) (c .before .before .frees .ensures) (c .before .over .ensures) (ap (toldOf _) (c .last .ensures))
 
 pub turn-spec : {M : Type 1} → statement M
 turn-spec =
     tie.close
     (tie.spec (λ c κs. search needs) (λ c. search needs) held-requires
-    (λ c κs. search needs) (λ c κs. search needs) returns
-    (λ c. search needs) (λ c κs. search needs) (λ c κs. search needs) returns-2
-    (λ c. search needs) (λ c κs. search needs) (λ c κs. search needs) (λ c κs. search needs) (λ c κs. search needs)
-    returns-3
-    (λ c. search needs) (λ c. search needs) (λ c κs. search needs) (λ c κs. search needs) (λ c κs. search needs)
-    returns-4
-    (λ c κs. search needs) (λ c κs. search needs) returns-5
-    (λ c κs. search needs) (λ c κs. search needs) (λ c κs. search needs) (λ c κs. search needs) returns-6)
+    (λ c κs. search needs) returns
+    (λ c. search needs) (λ c κs. search needs) returns-2
+    (λ c. search needs) (λ c κs. search needs) (λ c κs. search needs) (λ c κs. search needs) returns-3
+    (λ c. search needs) (λ c. search needs) (λ c κs. search needs) (λ c κs. search needs) returns-4
+    (λ c κs. search needs) returns-5
+    (λ c κs. search needs) (λ c κs. search needs) (λ c κs. search needs) returns-6)
