@@ -86,8 +86,8 @@ impl Central {
             sense: 1,
         };
         Central {
-            gate,
             course: Course::start(),
+            gate,
             made: made::none(0, false),
         }
     }
@@ -104,15 +104,15 @@ impl Central {
         let step = match due {
             Due::Hold => {
                 return Central {
-                    gate,
                     course: course.held(i),
+                    gate,
                     made: made::none(w, false),
                 };
             }
             Due::Idle => {
                 return Central {
-                    gate,
                     course,
+                    gate,
                     made: made::none(w, true),
                 };
             }
@@ -123,28 +123,28 @@ impl Central {
             1 => {
                 if gate.count == 1 {
                     return Central {
-                        gate: gate.counts(i),
                         course: course.goes(i, 2),
+                        gate: gate.counts(i),
                         made: made::first(home, made::ARRIVE),
                     };
                 }
                 return Central {
-                    gate: gate.counts(i),
                     course: course.goes(i, 4),
+                    gate: gate.counts(i),
                     made: made::first(home, made::ARRIVE),
                 };
             }
             2 => {
                 return Central {
-                    gate: gate.resets(procs),
                     course: course.goes(i, 3),
+                    gate: gate.resets(procs),
                     made: made::later(home, 0, 0),
                 };
             }
             3 => {
                 return Central {
-                    gate: gate.opens(i),
                     course: course.leaves(i, hold),
+                    gate: gate.opens(i),
                     made: made::last(home, made::LEAVE),
                 };
             }
@@ -152,14 +152,14 @@ impl Central {
                 let local = gate.local;
                 if gate.sense == local[i] {
                     return Central {
-                        gate,
                         course: course.leaves(i, hold),
+                        gate,
                         made: made::last(home, made::LEAVE),
                     };
                 }
                 return Central {
-                    gate,
                     course,
+                    gate,
                     made: made::spin(home),
                 };
             }

@@ -34,49 +34,51 @@ returns-2 c =
 
 returns-3 : tie.Need-returns-3
 returns-3 c =
-    let b : tie.Then1 = c .before .before .before in
-    let a : tie.After-due2 = b .before .before .before .before in
-    let d : tie.After-due = a .before .before in
-    central-last _ _ _ _ _ _ _ (d .due .result) (d .due .ensures) (a .due2 .given .0 .0) (a .due2 .given .1) _ _ _ (b .before .before .match2 .keys1) (b .if1 .taken) (c .before .before .counts .ensures) (c .before .goes .ensures) (ap (toldOf _) (c .first .ensures))
+    let d : tie.After-due = search needs in
+    let a : tie.After-due2 = search needs in
+    let b : tie.At-match2-keys1 = search needs in
+    let m : tie.After-first = search needs in
+    central-last _ _ _ _ _ _ _ (d .due .result) (d .due .ensures) (a .due2 .given .0 .0) (a .due2 .given .1) _ _ _ (search needs) (search needs) (search needs) (search needs) (ap (toldOf _) (m .first .ensures))
 
 returns-4 : tie.Need-returns-4
 returns-4 c =
-    let b : tie.Else1 = c .before .before .before in
-    let a : tie.After-due2 = b .before .before .before .before in
-    let d : tie.After-due = a .before .before in
-    central-early _ _ _ _ _ _ _ (d .due .result) (d .due .ensures) (a .due2 .given .0 .0) (a .due2 .given .1) _ _ _ (b .before .before .match2 .keys1) (b .if1 .left) (c .before .before .counts2 .ensures) (c .before .goes2 .ensures) (ap (toldOf _) (c .first2 .ensures))
+    let d : tie.After-due = search needs in
+    let a : tie.After-due2 = search needs in
+    let b : tie.At-match2-keys1 = search needs in
+    let m : tie.After-first2 = search needs in
+    central-early _ _ _ _ _ _ _ (d .due .result) (d .due .ensures) (a .due2 .given .0 .0) (a .due2 .given .1) _ _ _ (search needs) (search needs) (search needs) (search needs) (ap (toldOf _) (m .first2 .ensures))
 
 returns-5 : tie.Need-returns-5
 returns-5 c =
-    let k : tie.At-match2-keys2 = c .before .before .before in
-    let a : tie.After-due2 = k .before .before in
-    let d : tie.After-due = a .before .before in
-    central-resets _ _ _ _ _ _ _ (d .due .result) (d .due .ensures) (a .due2 .given .0 .0) (a .due2 .given .1) _ _ _ (k .match2 .keys2) (c .before .before .resets .ensures) (c .before .goes3 .ensures) (ap (toldOf _) (c .later .ensures))
+    let d : tie.After-due = search needs in
+    let a : tie.After-due2 = search needs in
+    let m : tie.After-later = search needs in
+    central-resets _ _ _ _ _ _ _ (d .due .result) (d .due .ensures) (a .due2 .given .0 .0) (a .due2 .given .1) _ _ _ (search needs) (search needs) (search needs) (ap (toldOf _) (m .later .ensures))
 
 returns-6 : tie.Need-returns-6
 returns-6 c =
-    let k : tie.At-match2-keys3 = c .before .before .before in
-    let a : tie.After-due2 = k .before .before in
-    let d : tie.After-due = a .before .before in
-    central-opens _ _ _ _ _ _ _ (d .due .result) (d .due .ensures) (a .due2 .given .0 .0) (a .due2 .given .1) _ _ _ (k .match2 .keys3) (c .before .before .opens .ensures) (c .before .leaves .ensures) (ap (toldOf _) (c .last .ensures))
+    let d : tie.After-due = search needs in
+    let a : tie.After-due2 = search needs in
+    let m : tie.After-last = search needs in
+    central-opens _ _ _ _ _ _ _ (d .due .result) (d .due .ensures) (a .due2 .given .0 .0) (a .due2 .given .1) _ _ _ (search needs) (search needs) (search needs) (ap (toldOf _) (m .last .ensures))
 
 returns-7 : tie.Need-returns-7
 returns-7 c =
-    let b : tie.Then2 = c .before .before in
-    let k : tie.At-match2-rest = b .before .before .before in
-    let a : tie.After-due2 = k .before .before in
-    let d : tie.After-due = a .before .before in
-    let not = k .match2 .rest in
-    central-leaves _ _ _ _ _ _ _ (d .due .result) (d .due .ensures) (a .due2 .given .0 .0) (a .due2 .given .1) _ _ _ (not .0 .0 .1) (not .0 .1) (not .1) (rw (view-at 1 (place (d .before .before .before))) (b .if2 .taken)) refl (c .before .leaves2 .ensures) (ap (toldOf _) (c .last2 .ensures))
+    let d : tie.After-due = search needs in
+    let a : tie.After-due2 = search needs in
+    let b : tie.At-match2-rest = search needs in
+    let p = place (search needs) in
+    let m : tie.After-last2 = search needs in
+    central-leaves _ _ _ _ _ _ _ (d .due .result) (d .due .ensures) (a .due2 .given .0 .0) (a .due2 .given .1) _ _ _ (search needs) (search needs) (search needs) (rw (view-at 1 p) (search needs)) refl (search needs) (ap (toldOf _) (m .last2 .ensures))
 
 returns-8 : tie.Need-returns-8
 returns-8 c =
-    let b : tie.Else2 = c .before in
-    let k : tie.At-match2-rest = b .before .before .before in
-    let a : tie.After-due2 = k .before .before in
-    let d : tie.After-due = a .before .before in
-    let not = k .match2 .rest in
-    central-spins _ _ _ _ _ _ _ (d .due .result) (d .due .ensures) (a .due2 .given .0 .0) (a .due2 .given .1) _ _ _ (not .0 .0 .1) (not .0 .1) (not .1) (rw (view-at 1 (place (d .before .before .before))) (b .if2 .left)) refl refl (ap (toldOf _) (c .spin .ensures))
+    let d : tie.After-due = search needs in
+    let a : tie.After-due2 = search needs in
+    let b : tie.At-match2-rest = search needs in
+    let p = place (search needs) in
+    let m : tie.After-spin = search needs in
+    central-spins _ _ _ _ _ _ _ (d .due .result) (d .due .ensures) (a .due2 .given .0 .0) (a .due2 .given .1) _ _ _ (search needs) (search needs) (search needs) (rw (view-at 1 p) (search needs)) refl refl (ap (toldOf _) (m .spin .ensures))
 
 pub turn-spec : {M : Type 1} → statement M
 turn-spec =

@@ -25,9 +25,17 @@ word-place z = let n : length (z .args .self .flags .flags) ≡ 64 = search need
 here : (a : tie.After-due2) → let z : tie.Start = a .before .before .before .before .before in
     Here (z .args .w) (z .args .procs) (z .args .levels) (z .args .rounds) (flagsOf (z .args .self .flags)) (courseOf (z .args .self .course)) (a .due2 .given .0 .0)
 here a =
-    let d : tie.After-due = a .before .before in
-    let z : tie.Start = d .before .before .before in
-    record { below = z .pre .0; most = z .pre .1; rounds-are = z .pre .2; sound = z .pre .4; what = d .due .result; dues = d .due .ensures; is = a .due2 .given .1 }
+    let z : tie.Start = search needs in
+    let d : tie.After-due = search needs in
+    record {
+      below = search needs;
+      most = search needs;
+      rounds-are = search needs;
+      sound = search needs;
+      what = d .due .result;
+      dues = d .due .ensures;
+      is = a .due2 .given .1;
+    }
 
 held-requires : tie.Need-held-requires
 held-requires c κs =
@@ -36,45 +44,50 @@ held-requires c κs =
 
 returns : tie.Need-returns
 returns c =
-    let z : tie.Start = search needs in
     let d : tie.After-due = search needs in
-    dissem-holds _ _ _ _ _ _ _ (z .pre .4) (d .due .result) (d .due .ensures) _ _ _ (search needs) refl (c .before .held .ensures) (told-none _ _ _ (c .none .ensures))
+    let h : tie.After-held = search needs in
+    let n : tie.After-none = search needs in
+    dissem-holds _ _ _ _ _ _ _ (search needs) (d .due .result) (d .due .ensures) _ _ _ (search needs) refl (h .held .ensures) (told-none _ _ _ (n .none .ensures))
 
 returns-2 : tie.Need-returns-2
 returns-2 c =
-    let z : tie.Start = search needs in
     let d : tie.After-due = search needs in
-    dissem-idles _ _ _ _ _ _ _ (z .pre .4) (d .due .result) (d .due .ensures) _ _ _ (search needs) refl refl (told-none _ _ _ (c .none2 .ensures))
+    let n : tie.After-none2 = search needs in
+    dissem-idles _ _ _ _ _ _ _ (search needs) (d .due .result) (d .due .ensures) _ _ _ (search needs) refl refl (told-none _ _ _ (n .none2 .ensures))
 
 bit-requires : tie.Need-bit-requires
 bit-requires c κs =
     let v : tie.After-variable = search needs in
-    let a : tie.After-due2 = v .before .before .before .before .before in
-    let z : tie.Start = a .before .before .before .before .before in
+    let a : tie.After-due2 = search needs in
+    let z : tie.Start = search needs in
     omega (arith, round<6 (here a), v .variable .ensures, view-at 1 (own-place z))
-
--- ---- step 2: its own flag and sense are read
 
 returns-3 : tie.Need-returns-3
 returns-3 c =
-    let s : tie.After-sense = c .before .before in
-    let v : tie.After-variable = s .before .before in
-    let a : tie.After-due2 = v .before .before .before .before .before in
-    let z : tie.Start = a .before .before .before .before .before in
-    let flag = read-flag (word-place z) (own-place z) (v .variable .ensures) (s .before .bit .ensures) in
+    let m : tie.After-spin = search needs in
+    let s : tie.After-sense = search needs in
+    let t : tie.After-bit = search needs in
+    let v : tie.After-variable = search needs in
+    let a : tie.After-due2 = search needs in
+    let z : tie.Start = search needs in
+    let flag = read-flag (word-place z) (own-place z) (v .variable .ensures) (t .bit .ensures) in
     let own = read-sense (own-place z) (s .sense .ensures) in
-    dissem-spins (here a) _ _ _ _ (v .before .before .if1 .taken) (λ e. c .before .if2 .taken (sym flag ∙ e ∙ own)) refl refl (ap (toldOf _) (c .spin .ensures))
+    let differs : t .bit .result ≡ s .sense .result → ⊥ = search needs in
+    dissem-spins (here a) _ _ _ _ (search needs) (λ e. differs (sym flag ∙ e ∙ own)) refl refl (ap (toldOf _) (m .spin .ensures))
 
 returns-4 : tie.Need-returns-4
 returns-4 c =
-    let b : tie.Then3 = c .before .before .before in
-    let s : tie.After-sense = b .before .before in
-    let v : tie.After-variable = s .before .before in
-    let a : tie.After-due2 = v .before .before .before .before .before in
-    let z : tie.Start = a .before .before .before .before .before in
-    let flag = read-flag (word-place z) (own-place z) (v .variable .ensures) (s .before .bit .ensures) in
+    let m : tie.After-last = search needs in
+    let g : tie.After-leaves2 = search needs in
+    let l : tie.After-leaves = search needs in
+    let s : tie.After-sense = search needs in
+    let t : tie.After-bit = search needs in
+    let v : tie.After-variable = search needs in
+    let a : tie.After-due2 = search needs in
+    let z : tie.Start = search needs in
+    let flag = read-flag (word-place z) (own-place z) (v .variable .ensures) (t .bit .ensures) in
     let own = read-sense (own-place z) (s .sense .ensures) in
-    dissem-leaves (here a) _ _ _ _ (v .before .before .if1 .taken) (flag ∙ b .before .if2 .left ∙ sym own) (rw (view-at 1 (own-place z)) (b .if3 .taken)) (c .before .before .leaves .ensures) (c .before .leaves2 .ensures) (ap (toldOf _) (c .last .ensures))
+    dissem-leaves (here a) _ _ _ _ (search needs) (flag ∙ search needs ∙ sym own) (rw (view-at 1 (own-place z)) (search needs)) (l .leaves .ensures) (g .leaves2 .ensures) (ap (toldOf _) (m .last .ensures))
 
 goes-on-requires : tie.Need-goes-on-requires
 goes-on-requires c κs =
@@ -83,40 +96,46 @@ goes-on-requires c κs =
 
 returns-5 : tie.Need-returns-5
 returns-5 c =
-    let b : tie.Else3 = c .before .before .before in
-    let s : tie.After-sense = b .before .before in
-    let v : tie.After-variable = s .before .before in
-    let a : tie.After-due2 = v .before .before .before .before .before in
-    let z : tie.Start = a .before .before .before .before .before in
-    let flag = read-flag (word-place z) (own-place z) (v .variable .ensures) (s .before .bit .ensures) in
+    let m : tie.After-later = search needs in
+    let g : tie.After-goes = search needs in
+    let l : tie.After-goes-on = search needs in
+    let s : tie.After-sense = search needs in
+    let t : tie.After-bit = search needs in
+    let v : tie.After-variable = search needs in
+    let a : tie.After-due2 = search needs in
+    let z : tie.Start = search needs in
+    let flag = read-flag (word-place z) (own-place z) (v .variable .ensures) (t .bit .ensures) in
     let own = read-sense (own-place z) (s .sense .ensures) in
-    dissem-goes-on (here a) _ _ _ _ (v .before .before .if1 .taken) (flag ∙ b .before .if2 .left ∙ sym own) (rw (view-at 1 (own-place z)) (b .if3 .left)) (c .before .before .goes-on .ensures) (c .before .goes .ensures) (ap (toldOf _) (c .later .ensures))
-
--- ---- the other steps
+    dissem-goes-on (here a) _ _ _ _ (search needs) (flag ∙ search needs ∙ sym own) (rw (view-at 1 (own-place z)) (search needs)) (l .goes-on .ensures) (g .goes .ensures) (ap (toldOf _) (m .later .ensures))
 
 returns-6 : tie.Need-returns-6
 returns-6 c =
-    let b : tie.Then4 = c .before .before in
-    dissem-alone (here (b .before .before .before .before)) _ _ _ _ (b .if4 .taken) refl (c .before .leaves3 .ensures) (ap (toldOf _) (c .alone .ensures))
+    let m : tie.After-alone = search needs in
+    let g : tie.After-leaves3 = search needs in
+    let a : tie.After-due2 = search needs in
+    dissem-alone (here a) _ _ _ _ (search needs) refl (g .leaves3 .ensures) (ap (toldOf _) (m .alone .ensures))
 
 partner-requires : tie.Need-partner-requires
 partner-requires c κs =
     let a : tie.After-due2 = search needs in
-    let z : tie.Start = a .before .before .before .before .before in
-    (z .pre .0, z .pre .1, omega (arith, round<6 (here a), view-at 1 (own-place z)))
+    let z : tie.Start = search needs in
+    (search needs, search needs, omega (arith, round<6 (here a), view-at 1 (own-place z)))
 
 tells-requires : tie.Need-tells-requires
 tells-requires c κs =
+    let j : tie.After-partner = search needs in
     let a : tie.After-due2 = search needs in
     (search needs, search needs, round<6 (here a))
 
 returns-7 : tie.Need-returns-7
 returns-7 c =
-    let j : tie.After-partner = c .before .before .before in
-    let b : tie.Else4 = j .before in
-    let a : tie.After-due2 = b .before .before .before .before in
-    let z : tie.Start = a .before .before .before .before .before in
-    dissem-tells (here a) _ _ _ _ _ (c .before .before .tells .ensures) (c .before .goes2 .ensures) (rw (view-at 1 (own-place z)) (j .partner .ensures .0)) (b .before .if1 .left) (b .if4 .left) (ap (toldOf _) (c .telling .ensures))
+    let m : tie.After-telling = search needs in
+    let g : tie.After-goes2 = search needs in
+    let l : tie.After-tells = search needs in
+    let j : tie.After-partner = search needs in
+    let a : tie.After-due2 = search needs in
+    let z : tie.Start = search needs in
+    dissem-tells (here a) _ _ _ _ _ (l .tells .ensures) (g .goes2 .ensures) (rw (view-at 1 (own-place z)) (j .partner .ensures .0)) (search needs) (search needs) (ap (toldOf _) (m .telling .ensures))
 
 pub turn-spec : {M : Type 1} → statement M
 turn-spec =

@@ -30,36 +30,39 @@ returns-2 c =
 
 returns-3 : tie.Need-returns-3
 returns-3 c =
-    let k : tie.At-match2-keys1 = c .before .before .before in
-    let a : tie.After-due2 = k .before .before in
-    let d : tie.After-due = a .before .before in
-    ticket-asks _ _ _ _ _ _ (d .due .result) (d .due .ensures) (a .due2 .given .0 .0) (a .due2 .given .1) _ _ _ (k .match2 .keys1) (c .before .before .asks .ensures) (c .before .goes .ensures) (ap (toldOf _) (c .first .ensures))
+    let d : tie.After-due = search needs in
+    let a : tie.After-due2 = search needs in
+    let l : tie.After-asks = search needs in
+    let g : tie.After-goes = search needs in
+    let m : tie.After-first = search needs in
+    ticket-asks _ _ _ _ _ _ (d .due .result) (d .due .ensures) (a .due2 .given .0 .0) (a .due2 .given .1) _ _ _ (search needs) (l .asks .ensures) (g .goes .ensures) (ap (toldOf _) (m .first .ensures))
 
 returns-4 : tie.Need-returns-4
 unfolding view
 returns-4 c =
-    let b : tie.Then1 = c .before .before in
-    let k : tie.At-match2-keys2 = b .before .before .before in
-    let a : tie.After-due2 = k .before .before in
-    let d : tie.After-due = a .before .before in
-    ticket-granted _ _ _ _ _ _ (d .due .result) (d .due .ensures) (a .due2 .given .0 .0) (a .due2 .given .1) _ _ _ (k .match2 .keys2) (b .if1 .taken) refl (c .before .granted .ensures) (ap (toldOf _) (c .later .ensures))
+    let d : tie.After-due = search needs in
+    let a : tie.After-due2 = search needs in
+    let b : tie.At-match2-keys2 = search needs in
+    let g : tie.After-granted = search needs in
+    let m : tie.After-later = search needs in
+    ticket-granted _ _ _ _ _ _ (d .due .result) (d .due .ensures) (a .due2 .given .0 .0) (a .due2 .given .1) _ _ _ (search needs) (search needs) refl (g .granted .ensures) (ap (toldOf _) (m .later .ensures))
 
 returns-5 : tie.Need-returns-5
 unfolding view
 returns-5 c =
-    let b : tie.Else1 = c .before in
-    let k : tie.At-match2-keys2 = b .before .before .before in
-    let a : tie.After-due2 = k .before .before in
-    let d : tie.After-due = a .before .before in
-    ticket-spins _ _ _ _ _ _ (d .due .result) (d .due .ensures) (a .due2 .given .0 .0) (a .due2 .given .1) _ _ _ (k .match2 .keys2) (b .if1 .left) refl refl (ap (toldOf _) (c .spin .ensures))
+    let d : tie.After-due = search needs in
+    let a : tie.After-due2 = search needs in
+    let m : tie.After-spin = search needs in
+    ticket-spins _ _ _ _ _ _ (d .due .result) (d .due .ensures) (a .due2 .given .0 .0) (a .due2 .given .1) _ _ _ (search needs) (search needs) refl refl (ap (toldOf _) (m .spin .ensures))
 
 returns-6 : tie.Need-returns-6
 returns-6 c =
-    let k : tie.At-match2-rest = c .before .before .before in
-    let a : tie.After-due2 = k .before .before in
-    let d : tie.After-due = a .before .before in
-    let not = k .match2 .rest in
-    ticket-frees _ _ _ _ _ _ (d .due .result) (d .due .ensures) (a .due2 .given .0 .0) (a .due2 .given .1) _ _ _ (not .0 .1) (not .1) (c .before .before .frees .ensures) (c .before .over .ensures) (ap (toldOf _) (c .last .ensures))
+    let d : tie.After-due = search needs in
+    let a : tie.After-due2 = search needs in
+    let l : tie.After-frees = search needs in
+    let g : tie.After-over = search needs in
+    let m : tie.After-last = search needs in
+    ticket-frees _ _ _ _ _ _ (d .due .result) (d .due .ensures) (a .due2 .given .0 .0) (a .due2 .given .1) _ _ _ (search needs) (search needs) (l .frees .ensures) (g .over .ensures) (ap (toldOf _) (m .last .ensures))
 
 pub turn-spec : {M : Type 1} → statement M
 turn-spec =
