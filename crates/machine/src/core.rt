@@ -1,5 +1,10 @@
 // A run over plain numbers: refusals, the machine that the settings name, its numbers. The table is filled afterwards.
+use settings::ACCEPTED;
+use settings::CENTRAL;
+use settings::MCS;
 use settings::Settings;
+use settings::TICKET;
+use settings::TOO_SHORT;
 use settings::refused_by;
 use turns::Played;
 ghost use mathlib.Core.Path.{_≡_};
@@ -37,7 +42,7 @@ fn accepted(procs: u16, p: Played) -> Outcome
 {
     let sums = p.sums;
     Outcome {
-        number: 0,
+        number: ACCEPTED,
         turns: p.taken,
         stop: p.stop,
         events: p.events,
@@ -52,20 +57,20 @@ pub(crate) fn core(s: Settings, schedule: &[u16], events: &mut [u16], room: usiz
     ensures { λ r. ⌜ OutcomeIs (settingsOf s) (now (schedule .entry)) (now (events .entry)) (now (events .exit)) room r ⌝ }
 {
     let number = refused_by(s, schedule);
-    if number != 0 {
+    if number != ACCEPTED {
         return refused(number);
     }
     if room < s.procs as usize {
-        return refused(6);
+        return refused(TOO_SHORT);
     }
     if events.len() < 2 * schedule.len() {
-        return refused(6);
+        return refused(TOO_SHORT);
     }
     let algo = s.algo;
     let p = match algo {
-        1 => ticket::play(s, schedule, events),
-        2 => mcs::play(s, schedule, events),
-        3 => central::play(s, schedule, events),
+        TICKET => ticket::play(s, schedule, events),
+        MCS => mcs::play(s, schedule, events),
+        CENTRAL => central::play(s, schedule, events),
         _ => dissem::play(s, schedule, events),
     };
     accepted(s.procs, p)
