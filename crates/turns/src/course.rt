@@ -3,7 +3,7 @@ ghost use mathlib.Core.Path.{_≡_};
 ghost use Prim.Native.Nat.{_<_, _≤_, _+_, _-_};
 ghost use lib.Dec.{eqb};
 ghost use lib.ListN.{getD};
-ghost use Rattle.rules.specs.Memory.{pick};
+ghost use Rattle.rules.specs.Memory.{pick, upd};
 ghost use Rattle.rules.specs.Course.{outset};
 ghost use Rattle.turns.specs.View.{courseOf, holds, held, goneTo, ended, Dues};
 
@@ -124,15 +124,14 @@ impl Course {
         }
     }
 
-    // Processor i's passage is done.
-    pub fn over(self, i: usize) -> Course
+    // One passage more of processor i is done.
+    fn ends(self, i: usize) -> Course
         requires { ⌜ (i < 64) × (courseOf self .done i < 65535) ⌝ }
-        ensures { λ r. ⌜ courseOf r ≡ ended (courseOf self) i 0 ⌝ }
+        ensures { λ r. ⌜ courseOf r ≡ record { at = courseOf self .at; left = courseOf self .left; done = upd (courseOf self .done) i (courseOf self .done i + 1) } ⌝ }
     {
         let mut done = self.done;
         done[i] = done[i] + 1;
-        let mut at = self.at;
-        at[i] = 1;
+        let at = self.at;
         let left = self.left;
         Course {
             done,
@@ -142,22 +141,19 @@ impl Course {
         }
     }
 
+    // Processor i's passage is done.
+    pub fn over(self, i: usize) -> Course
+        requires { ⌜ (i < 64) × (courseOf self .done i < 65535) ⌝ }
+        ensures { λ r. ⌜ courseOf r ≡ ended (courseOf self) i 0 ⌝ }
+    {
+        self.ends(i).goes(i, 1)
+    }
+
     // Processor i leaves the barrier: its passage is done, and its hold turns follow.
     pub fn leaves(self, i: usize, hold: u8) -> Course
         requires { ⌜ (i < 64) × (courseOf self .done i < 65535) ⌝ }
         ensures { λ r. ⌜ courseOf r ≡ ended (courseOf self) i hold ⌝ }
     {
-        let mut done = self.done;
-        done[i] = done[i] + 1;
-        let mut at = self.at;
-        at[i] = after_hold(1, hold);
-        let mut left = self.left;
-        left[i] = one_less(hold);
-        Course {
-            done,
-            gap: 0,
-            at,
-            left,
-        }
+        self.ends(i).granted(i, 1, hold)
     }
 }

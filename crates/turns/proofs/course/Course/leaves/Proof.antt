@@ -1,27 +1,12 @@
 -- `turns::course::Course::leaves` meets its contract.
 use borrow.Author.Needs.{needs}
-use mathlib.Core.Path.{refl}
-use native.Mathlib.Omega.{arith}
-use Rattle.rules.proofs.Views.{view, view-put, view-at}
-use Rattle.turns.proofs.Courses.{Rows, same-course, steps-put, lefts-put, after-step, after-left}
+use mathlib.Core.Path.{ap, _∙_}
+use Rattle.turns.specs.View.{goneTo}
 use Rattle.turns.proofs.course.Course.leaves.Statement.{statement}
 use Rattle.turns.proofs.course.Course.leaves.Tie as tie
-
-add-done : tie.Need-add-done
-unfolding view
-add-done c = search needs
-
-returns : tie.Need-returns
-returns c =
-    let z : tie.Start = search needs in
-    let r : Rows (z .args .self) (z .args .i) = search needs in
-    let a : tie.After-after-hold = search needs in
-    let o : tie.After-one-less = search needs in
-    same-course _ _ (steps-put _ _ r _ _ (after-step _ (z .args .hold) _ (search needs) (a .after-hold .ensures))) (lefts-put _ _ r _ _ _ (after-left _ (z .args .hold) _ (search needs) (a .after-hold .ensures) _ (o .one-less .ensures)))
-    (view-put 0 (r .done) (rw (view-at 0 (r .done))))
 
 pub leaves-spec : {M : Type 1} → statement M
 leaves-spec =
     tie.close
-    (tie.spec (λ c. search needs) (λ c. search needs) add-done
-    (λ c. search needs) (λ c. search needs) (λ c κs. search needs) (λ c. search needs) (λ c κs. search needs) (λ c. search needs) returns)
+    (tie.spec (λ c κs. search needs) (λ c κs. search needs)
+    (λ c. let z : tie.Start = search needs in c .granted .ensures ∙ ap (λ x. goneTo x (z .args .i) 1 (z .args .hold)) (c .before .ends .ensures)))

@@ -1,24 +1,12 @@
 -- `turns::course::Course::over` meets its contract.
 use borrow.Author.Needs.{needs}
-use mathlib.Core.Path.{refl}
-use native.Mathlib.Omega.{arith}
-use Rattle.rules.proofs.Views.{view, view-put, view-at}
-use Rattle.turns.proofs.Courses.{Rows, same-course, steps-put, lefts-none}
+use mathlib.Core.Path.{ap, _∙_}
+use Rattle.turns.specs.View.{goneTo}
 use Rattle.turns.proofs.course.Course.over.Statement.{statement}
 use Rattle.turns.proofs.course.Course.over.Tie as tie
-
-add-done : tie.Need-add-done
-unfolding view
-add-done c = search needs
-
-returns : tie.Need-returns
-returns c =
-    let z : tie.Start = search needs in
-    let r : Rows (z .args .self) (z .args .i) = search needs in
-    same-course _ _ (steps-put _ _ r _ _ refl) (lefts-none _ _ r _ (omega arith)) (view-put 0 (r .done) (rw (view-at 0 (r .done))))
 
 pub over-spec : {M : Type 1} → statement M
 over-spec =
     tie.close
-    (tie.spec (λ c. search needs) (λ c. search needs) add-done
-    (λ c. search needs) (λ c. search needs) (λ c. search needs) returns)
+    (tie.spec (λ c κs. search needs) (λ c κs. search needs)
+    (λ c. let z : tie.Start = search needs in c .goes .ensures ∙ ap (λ x. goneTo x (z .args .i) 1 0) (c .before .ends .ensures)))
