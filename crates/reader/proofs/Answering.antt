@@ -1,9 +1,9 @@
 -- The processors' lines, the turns and the end of the file, and the whole: one law for each way out.
-use Prim.Native.Nat.{ℕ, _≤_, _<_}
+use Prim.Native.Nat.{ℕ, _≤_, _<_, min}
 use mathlib.Core.Path.{_≡_, ap, sym, _∙_}
 use mathlib.Core.List.{List, []}
 use mathlib.Core.Bool.{true, false}
-use lib.ListN.{length, drop, drop-of-length-le}
+use lib.ListN.{length, take, drop, drop-of-length-le, length-take}
 use lib.Dec.{leb}
 use borrow.Author.Tests.{le-leb, lt-leb}
 use native.Mathlib.Omega.{arith}
@@ -12,7 +12,7 @@ use Rattle.rules.specs.Machines.{bytes}
 use Rattle.rules.specs.Rule.{Got, ok, fault, after, give, lit, end}
 use Rattle.rules.specs.File.{rows, turns, front, settings, rest, whole, file}
 use Rattle.rules.specs.Calls as rules
-use Rattle.rules.specs.Calls.{readingOf}
+use Rattle.rules.specs.Calls.{over, readingOf}
 use Rattle.settings.specs.View.{settingsOf}
 use Rattle.settings.specs.declared.Settings as code
 use Rattle.reader.specs.declared.place.Step.{Step}
@@ -24,7 +24,7 @@ use Rattle.reader.specs.declared.front.Head.{Head}
 use Rattle.reader.specs.declared.front.Opened.{Opened}
 use Rattle.reader.specs.declared.front.Opened.the-variants.{Good, Faulty}
 use Rattle.reader.specs.declared.reading.ReadAnswer.{ReadAnswer}
-use Rattle.reader.specs.Places.{stepOf, valueOf, rowsOf, headOf, frontOf, counted, fitsIn, filled, ending}
+use Rattle.reader.specs.Places.{stepOf, valueOf, rowsOf, headOf, frontOf, counted, begins, Gathered, ending}
 use Rattle.reader.specs.ReadView.{answerOf, refused, GotIs, ReadIs}
 use Rattle.reader.proofs.Stepping.{drop-next}
 
@@ -42,14 +42,6 @@ record Counted (g : Got (List ℕ)) (k : ℕ) (s : List ℕ) (p : ℕ) : Type 0 
 counted-ok : (g : Got (List ℕ)) (k : ℕ) (s : List ℕ) (p : ℕ) → ok k s p ≡ counted g → Counted g k s p
 counted-ok (fault m q) k s p e = let z : _≡_ {A = ℕ} 0 1 = cc in absurd (omega arith)
 counted-ok (ok ts s′ p′) k s p e = let a : s′ ≡ s = cc in let b : p′ ≡ p = cc in let c : length ts ≡ k = cc in record { ts = ts; is = cc; long = c }
-
-pub fill-ready : (procs : ℕ) (s : List ℕ) (q : ℕ) (d : List ℕ) (c : Value) → valueOf s c ≡ counted (turns procs (drop q s) q) → (m p : ℕ) → c ≡ Is m p
-    → m ≤ length d → fitsIn (turns procs (drop q s) q) (length d)
-unfolding fitsIn
-fill-ready procs s q d c ce m p k l = go (counted-ok (turns procs (drop q s) q) m (drop p s) p (sym (ap (valueOf s) k) ∙ ce))
-  where
-    go : Counted (turns procs (drop q s) q) m (drop p s) p → fitsIn (turns procs (drop q s) q) (length d)
-    go C = rw (C .is) (rw (C .long) l)
 
 -- ---- the turns and the end
 
@@ -72,13 +64,27 @@ module _ (c : code.Settings) (s : List ℕ) (q : ℕ) (d : List ℕ) where
   unfolding ending whole
   turned ts w = rw w
 
-  module _ (r : Value) (re : valueOf s r ≡ counted T) where
+  module _ (row : List ℕ) (r : Value) (z : Gathered T (valueOf s r) row) where
+    re : valueOf s r ≡ counted T
+    re = z .value
+
     pub turns-bad : (a : ReadAnswer) (n p : ℕ) → r ≡ Not n p → answerOf a ≡ refused n p → GotIs E d d a
     turns-bad a n p k = refuses E d a n p (turned (fault n p) (counted-fault T n p (sym (ap (valueOf s) k) ∙ re)))
 
     module _ (m p : ℕ) (k : r ≡ Is m p) where
       C : Counted T m (drop p s) p
       C = counted-ok T m (drop p s) p (sym (ap (valueOf s) k) ∙ re)
+
+      -- the turns are the row's first
+      firsts : take m row ≡ C .ts
+      unfolding begins
+      firsts =
+          let k : begins (ok (C .ts) (drop p s) p) row = rw (C .is) at (z .kept) in
+          rw (C .long) at k
+
+      -- so there are as many in it
+      pub kept-all : m ≤ length row
+      kept-all = let e : min m (length row) ≡ m = sym (length-take m row) ∙ ap length firsts ∙ C .long in omega (arith, e)
 
       pub more-after : (a : ReadAnswer) → p < length s → answerOf a ≡ refused 1 p → GotIs E d d a
       more-after a o = refuses E d a 1 p (turned (ok (C .ts) (drop p s) p) (C .is) ∙ rw (drop-next s p o))
@@ -93,12 +99,12 @@ module _ (c : code.Settings) (s : List ℕ) (q : ℕ) (d : List ℕ) where
             let b : leb (length (C .ts)) (length d) ≡ false = lt-leb (length (C .ts)) (length d) (rw (C .long) t) in
             record { is = rw (all, b) (ap (λ (x : rules.ReadAnswer). outcome x d) (sym z)) }
 
-        pub accepted : (d′ : List ℕ) → m ≤ length d → d′ ≡ filled T d → GotIs E d d′ (record { number = 0; place = 0; settings = c; count = m })
+        pub accepted : (d′ : List ℕ) → m ≤ length d → d′ ≡ over (take m row) d → GotIs E d d′ (record { number = 0; place = 0; settings = c; count = m })
         unfolding readingOf
-        accepted d′ t z =
+        accepted d′ t w =
             let b : leb (length (C .ts)) (length d) ≡ true = le-leb (length (C .ts)) (length d) (rw (C .long) t) in
-            let w : d′ ≡ filled (ok (C .ts) (drop p s) p) d = z ∙ ap (λ (x : Got (List ℕ)). filled x d) (C .is) in
-            record { is = rw (all, b) (λ i. outcome (record { number = 0; place = 0; settings = settingsOf c; count = C .long i }) (sym w i)) }
+            let v : d′ ≡ over (C .ts) d = rw firsts at w in
+            record { is = rw (all, b) (λ i. outcome (record { number = 0; place = 0; settings = settingsOf c; count = C .long i }) (sym v i)) }
 
 -- ---- after the first five lines
 

@@ -1,12 +1,12 @@
 -- What the answers of the reading functions mean: for every case of each enum its value, what is left of the file and the place of that; or the number of refusal and its place.
 use Prim.Native.Nat.{ℕ, _-_, _≤_, _<_}
+use mathlib.Core.Path.{_≡_}
 use mathlib.Core.List.{List}
 use lib.ListN.{length, take, drop}
 use Rattle.rules.specs.Settings.{Settings}
 use Rattle.rules.specs.Bounds.{mostProcs, mostTicket, mostBudget}
 use Rattle.rules.specs.Machines.{bytes}
 use Rattle.rules.specs.Rule.{Got, ok, fault, Rule, _>>=_, give}
-use Rattle.rules.specs.Calls.{over}
 use Rattle.rules.specs.File.{Front, field, turns, whole}
 use Rattle.reader.specs.declared.place.Step.{Step}
 use Rattle.reader.specs.declared.place.Step.the-variants.{At, No}
@@ -91,15 +91,15 @@ abbrev pub counted : Got (List ℕ) → Got ℕ
 counted (ok ts left at) = ok (length ts) left at
 counted (fault n p) = fault n p
 
--- accepted, and no more than n
-unfoldable pub fitsIn : Got (List ℕ) → ℕ → Type 0
-fitsIn (ok ts left at) n = length ts ≤ n
-fitsIn (fault m p) n = ⊥
+-- the row begins with the turns, where they were accepted
+unfoldable pub begins : Got (List ℕ) → List ℕ → Type 0
+begins (ok ts left at) row = take (length ts) row ≡ ts
+begins (fault n p) row = Unit {0}
 
--- the schedule with the turns at its front, where they were accepted
-abbrev pub filled : Got (List ℕ) → List ℕ → List ℕ
-filled (ok ts left at) schedule = over ts schedule
-filled (fault n p) schedule = schedule
+-- how many turns there are, and a row that begins with them
+pub record Gathered (g : Got (List ℕ)) (v : Got ℕ) (row : List ℕ) : Type 0 where
+  pub value : v ≡ counted g
+  pub kept : begins g row
 
 -- the turns of these settings, and nothing after them
 unfoldable pub ending : Settings → Rule (Settings × List ℕ)

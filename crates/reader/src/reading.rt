@@ -7,10 +7,11 @@ use crate::place::MALFORMED;
 use crate::place::Step;
 use crate::place::Value;
 use crate::place::label;
-use crate::schedule::count;
-use crate::schedule::fill;
+use crate::schedule::gather;
+use crate::schedule::hand_over;
 use settings::ACCEPTED;
 use settings::MOST_PROCS;
+use settings::MOST_TURNS;
 use settings::Settings;
 use settings::TOO_SHORT;
 ghost use mathlib.Core.Path.{_≡_};
@@ -52,14 +53,14 @@ fn refuse(number: u8, place: usize) -> ReadAnswer
     }
 }
 
-// The turns and nothing more, from a place on. The schedule is written once all is accepted.
+// The turns and nothing more, from a place on. The lent schedule is written once all is accepted.
 fn closing(file: &[u8], s: Settings, at: usize, schedule: &mut [u16]) -> ReadAnswer
     requires { ⌜ s .procs ≤ mostProcs ⌝ }
     ensures { λ r. ⌜ GotIs (ending (settingsOf s) (drop at (now (file .entry))) at) (now (schedule .entry)) (now (schedule .exit)) r ⌝ }
 {
-    let procs = s.procs as usize;
-    let counted = count(file, procs, at);
-    match counted {
+    let mut kept = [0u16; MOST_TURNS];
+    let gathered = gather(file, s.procs as usize, at, &mut kept);
+    match gathered {
         Value::Not(n, p) => refuse(n, p),
         Value::Is(count, p) => {
             if p < file.len() {
@@ -68,7 +69,7 @@ fn closing(file: &[u8], s: Settings, at: usize, schedule: &mut [u16]) -> ReadAns
             if schedule.len() < count {
                 return refuse(TOO_SHORT, 0);
             }
-            fill(file, procs, at, schedule);
+            hand_over(&kept, count, schedule);
             ReadAnswer {
                 number: ACCEPTED,
                 place: 0,

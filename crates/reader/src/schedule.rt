@@ -1,4 +1,4 @@
-// The turns, gone over twice: counted and judged, and then written.
+// The turns, gone over once: judged and kept, and handed over once all is accepted.
 use crate::number::number;
 use crate::place::MALFORMED;
 use crate::place::Numeral;
@@ -8,14 +8,18 @@ use settings::STRAY;
 use settings::TOO_MANY;
 ghost use mathlib.Core.Path.{_≡_};
 ghost use Prim.Native.Nat.{_≤_};
-ghost use lib.ListN.{length, drop};
-ghost use Rattle.rules.specs.Bounds.{mostProcs};
+ghost use lib.ListN.{length, take, drop};
+ghost use Rattle.rules.specs.Bounds.{mostProcs, mostTurns};
 ghost use Rattle.rules.specs.File.{turns};
-ghost use Rattle.reader.specs.Places.{valueOf, counted, fitsIn, filled};
+ghost use Rattle.rules.specs.Calls.{over};
+ghost use Rattle.reader.specs.Places.{valueOf, Gathered};
 
-// How many turns there are, and the place after their line feed. For one turn, too many comes before a stray processor.
-pub(crate) fn count(file: &[u8], procs: usize, at: usize) -> Value
-    ensures { λ r. ⌜ valueOf (now (file .entry)) r ≡ counted (turns procs (drop at (now (file .entry))) at) ⌝ }
+// How many turns there are, and the place after their line feed; the turns go to a row of the reader's own. For one turn, too many comes
+// before a stray processor.
+pub(crate) fn gather(file: &[u8], procs: usize, at: usize, kept: &mut [u16]) -> Value
+    requires { ⌜ procs ≤ mostProcs ⌝ }
+    requires { ⌜ length (now kept) ≡ mostTurns ⌝ }
+    ensures { λ r. ⌜ Gathered (turns procs (drop at (now (file .entry))) at) (valueOf (now (file .entry)) r) (now (kept .exit)) ⌝ }
 {
     if file.len() <= at {
         return Value::Not(MALFORMED, at);
@@ -38,6 +42,7 @@ pub(crate) fn count(file: &[u8], procs: usize, at: usize) -> Value
                 if v >= procs {
                     return Value::Not(STRAY, p);
                 }
+                kept[c] = v as u16;
                 c += 1;
                 if x == b'\n' {
                     return Value::Is(c, q);
@@ -48,37 +53,14 @@ pub(crate) fn count(file: &[u8], procs: usize, at: usize) -> Value
     }
 }
 
-// The turns into a schedule that has room for them, where they were counted and judged before.
-pub(crate) fn fill(file: &[u8], procs: usize, at: usize, schedule: &mut [u16])
-    requires { ⌜ procs ≤ mostProcs ⌝ }
-    requires { ⌜ fitsIn (turns procs (drop at (now file)) at) (length (now schedule)) ⌝ }
-    ensures { λ _. ⌜ now (schedule .exit) ≡ filled (turns procs (drop at (now (file .entry))) at) (now (schedule .entry)) ⌝ }
+// The first n numbers of the row, into a schedule that has room for them.
+pub(crate) fn hand_over(kept: &[u16], n: usize, schedule: &mut [u16])
+    requires { ⌜ (n ≤ length (now kept)) × (n ≤ length (now schedule)) ⌝ }
+    ensures { λ _. ⌜ now (schedule .exit) ≡ over (take n (now (kept .entry))) (now (schedule .entry)) ⌝ }
 {
-    if file.len() <= at {
-        return;
-    }
-    if file[at] == b'\n' {
-        return;
-    }
     let mut i: usize = 0;
-    let mut p = at;
-    while i < schedule.len() {
-        let got = number(file, b',', b'\n', p);
-        match got {
-            Numeral::Bad(_n, _q) => {
-                return;
-            }
-            Numeral::Read(v, x, q) => {
-                if procs <= v {
-                    return;
-                }
-                schedule[i] = v as u16;
-                i += 1;
-                if x == b'\n' {
-                    return;
-                }
-                p = q;
-            }
-        }
+    while i < n {
+        schedule[i] = kept[i];
+        i += 1;
     }
 }
