@@ -1,5 +1,4 @@
 // What a run over a schedule gives, in plain numbers.
-ghost use mathlib.Core.Path.{_≡_};
 
 // taken: turns. events: how many. sums: six numbers for each processor.
 pub struct Played {
