@@ -15,18 +15,19 @@ use Rattle.rules.specs.Calls as rules
 use Rattle.rules.specs.Calls.{over, readingOf}
 use Rattle.settings.specs.View.{settingsOf}
 use Rattle.settings.specs.declared.Settings as code
-use Rattle.reader.specs.declared.place.Step.{Step}
-use Rattle.reader.specs.declared.place.Step.the-variants.{At, No}
-use Rattle.reader.specs.declared.place.Value.{Value}
-use Rattle.reader.specs.declared.place.Value.the-variants.{Is, Not}
+use Rattle.tokens.specs.declared.places.Step.{Step}
+use Rattle.tokens.specs.declared.places.Step.the-variants.{At, No}
+use Rattle.tokens.specs.declared.places.Value.{Value}
+use Rattle.tokens.specs.declared.places.Value.the-variants.{Is, Not}
 use Rattle.reader.specs.declared.lines.Rows.{Rows}
 use Rattle.reader.specs.declared.front.Head.{Head}
 use Rattle.reader.specs.declared.front.Opened.{Opened}
 use Rattle.reader.specs.declared.front.Opened.the-variants.{Good, Faulty}
 use Rattle.reader.specs.declared.reading.ReadAnswer.{ReadAnswer}
-use Rattle.reader.specs.Places.{stepOf, valueOf, rowsOf, headOf, frontOf, counted, begins, Gathered, ending}
+use Rattle.tokens.specs.TokenView.{stepOf, valueOf}
+use Rattle.reader.specs.LineView.{rowsOf, headOf, frontOf, counted, begins, Gathered, ending}
 use Rattle.reader.specs.ReadView.{answerOf, refused, GotIs, ReadIs}
-use Rattle.reader.proofs.Stepping.{drop-next}
+use Rattle.tokens.proofs.Stepping.{drop-next}
 
 -- ---- what a count says of the turns
 

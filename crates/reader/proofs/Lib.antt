@@ -1,6 +1,3 @@
-mod Stepping
-mod Numerals
-mod Spelling
 mod Lining
 mod Passing
 mod Opening

@@ -10,13 +10,14 @@ use Rattle.rules.specs.Rule.{Got, ok, fault, lit, isDigit, comma, feed}
 use Rattle.rules.specs.File.{decimal, label, ranged, entries, rows}
 use Rattle.laws.proofs.Decimal.{decimal-one, decimal-long}
 use Rattle.laws.proofs.Whole.{exact-ranged}
-use Rattle.reader.specs.declared.place.Step.{Step}
-use Rattle.reader.specs.declared.place.Step.the-variants.{At, No}
-use Rattle.reader.specs.declared.place.Value.{Value}
-use Rattle.reader.specs.declared.place.Value.the-variants.{Is, Not}
+use Rattle.tokens.specs.declared.places.Step.{Step}
+use Rattle.tokens.specs.declared.places.Step.the-variants.{At, No}
+use Rattle.tokens.specs.declared.places.Value.{Value}
+use Rattle.tokens.specs.declared.places.Value.the-variants.{Is, Not}
 use Rattle.reader.specs.declared.lines.Pair.{Pair}
 use Rattle.reader.specs.declared.lines.Pair.the-variants.{Of, Wrong}
-use Rattle.reader.specs.Places.{stepOf, valueOf, pairOf}
+use Rattle.tokens.specs.TokenView.{stepOf, valueOf}
+use Rattle.reader.specs.LineView.{pairOf}
 
 -- ---- the label
 

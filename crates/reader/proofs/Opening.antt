@@ -14,14 +14,15 @@ use Rattle.rules.proofs.Known.{unknown-number}
 use Rattle.laws.proofs.Names.{exact-name}
 use Rattle.laws.proofs.Whole.{exact-field}
 use Rattle.laws.proofs.RoundTrip.{exact-front}
-use Rattle.reader.specs.declared.place.Step.{Step}
-use Rattle.reader.specs.declared.place.Step.the-variants.{At, No}
-use Rattle.reader.specs.declared.place.Value.{Value}
-use Rattle.reader.specs.declared.place.Value.the-variants.{Is, Not}
+use Rattle.tokens.specs.declared.places.Step.{Step}
+use Rattle.tokens.specs.declared.places.Step.the-variants.{At, No}
+use Rattle.tokens.specs.declared.places.Value.{Value}
+use Rattle.tokens.specs.declared.places.Value.the-variants.{Is, Not}
 use Rattle.reader.specs.declared.front.Head.{Head}
 use Rattle.reader.specs.declared.front.Opened.{Opened}
 use Rattle.reader.specs.declared.front.Opened.the-variants.{Good}
-use Rattle.reader.specs.Places.{stepOf, valueOf, headOf, frontOf, limits, sizes}
+use Rattle.tokens.specs.TokenView.{stepOf, valueOf}
+use Rattle.reader.specs.LineView.{headOf, frontOf, limits, sizes}
 
 -- ---- what a field that was read says
 

@@ -12,10 +12,11 @@ use Rattle.rules.specs.Bounds.{mostTurns}
 use Rattle.rules.specs.Rule.{Got, ok, fault, comma, feed, number}
 use Rattle.rules.specs.Calls.{over}
 use Rattle.rules.specs.File.{items, turns}
-use Rattle.reader.specs.declared.place.Numeral.{Numeral}
-use Rattle.reader.specs.declared.place.Numeral.the-variants.{Read, Bad}
-use Rattle.reader.specs.Places.{numeralOf, begins, Gathered}
-use Rattle.reader.proofs.Stepping.{drop-next}
+use Rattle.tokens.specs.declared.places.Numeral.{Numeral}
+use Rattle.tokens.specs.declared.places.Numeral.the-variants.{Read, Bad}
+use Rattle.tokens.specs.TokenView.{numeralOf}
+use Rattle.reader.specs.LineView.{begins, Gathered}
+use Rattle.tokens.proofs.Stepping.{drop-next}
 
 -- ---- the first byte
 

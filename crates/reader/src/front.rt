@@ -1,17 +1,17 @@
 // The five lines before the processors'.
-use crate::name::name;
-use crate::number::field;
-use crate::place::Step;
-use crate::place::Value;
-use crate::place::label;
 use settings::LEAST_PROCS;
 use settings::MOST_BUDGET;
 use settings::MOST_PROCS;
 use settings::MOST_TICKET;
+use tokens::Step;
+use tokens::Value;
+use tokens::field;
+use tokens::label;
+use tokens::name;
 ghost use mathlib.Core.Path.{_≡_};
 ghost use lib.ListN.{drop};
 ghost use Rattle.rules.specs.File.{front};
-ghost use Rattle.reader.specs.Places.{frontOf, sizes, limits};
+ghost use Rattle.reader.specs.LineView.{frontOf, sizes, limits};
 
 // What they say.
 pub(crate) struct Head {

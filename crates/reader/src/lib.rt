@@ -1,9 +1,6 @@
 // The settings file, read into the settings record and the schedule.
 mod front;
 mod lines;
-mod name;
-mod number;
-mod place;
 mod reading;
 mod schedule;
 

@@ -1,11 +1,11 @@
 // The processors' lines.
-use crate::number::ranged;
-use crate::place::Step;
-use crate::place::Value;
-use crate::place::label;
 use settings::MOST_HOLD;
 use settings::MOST_PROCS;
 use settings::MOST_ROUNDS;
+use tokens::Step;
+use tokens::Value;
+use tokens::label;
+use tokens::ranged;
 ghost use mathlib.Core.Path.{_≡_};
 ghost use Prim.Native.Nat.{_<_, _≤_};
 ghost use lib.ListN.{drop};
@@ -13,7 +13,8 @@ ghost use Rattle.rules.specs.Bounds.{mostProcs};
 ghost use Rattle.rules.specs.Settings.{zeros};
 ghost use Rattle.rules.specs.Rule.{lit};
 ghost use Rattle.rules.specs.File.{label, entries, rows};
-ghost use Rattle.reader.specs.Places.{stepOf, pairOf, rowsOf};
+ghost use Rattle.tokens.specs.TokenView.{stepOf};
+ghost use Rattle.reader.specs.LineView.{pairOf, rowsOf};
 
 // A processor's rounds and hold, and the place after its line; or a refusal.
 pub(crate) enum Pair {

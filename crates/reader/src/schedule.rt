@@ -1,18 +1,19 @@
 // The turns, gone over once: judged and kept, and handed over once all is accepted.
-use crate::number::number;
-use crate::place::MALFORMED;
-use crate::place::Numeral;
-use crate::place::Value;
 use settings::MOST_TURNS;
 use settings::STRAY;
 use settings::TOO_MANY;
+use tokens::MALFORMED;
+use tokens::Numeral;
+use tokens::Value;
+use tokens::number;
 ghost use mathlib.Core.Path.{_≡_};
 ghost use Prim.Native.Nat.{_≤_};
 ghost use lib.ListN.{length, take, drop};
 ghost use Rattle.rules.specs.Bounds.{mostProcs, mostTurns};
 ghost use Rattle.rules.specs.File.{turns};
 ghost use Rattle.rules.specs.Calls.{over};
-ghost use Rattle.reader.specs.Places.{valueOf, Gathered};
+ghost use Rattle.tokens.specs.TokenView.{valueOf};
+ghost use Rattle.reader.specs.LineView.{Gathered};
 
 // How many turns there are, and the place after their line feed; the turns go to a row of the reader's own. For one turn, too many comes
 // before a stray processor.

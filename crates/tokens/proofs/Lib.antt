@@ -1,0 +1,4 @@
+pub mod Stepping
+mod Numerals
+mod Spelling
+pub mod OneOutcome
