@@ -1,14 +1,14 @@
 -- A run over the beginning of a schedule is the beginning of the run over the whole.
-use mathlib.Core.Path.{_≡_, refl, sym, ap, _∙_, subst}
+use mathlib.Core.Path.{_≡_, refl, sym, ap, _∙_}
 use mathlib.Core.Bool.{Bool, true, false}
 use mathlib.Core.List.{List, [], _∷_, _++_, append-nil, append-assoc}
-use Prim.Native.Nat.{ℕ, suc, _+_, _≤_, max, min}
+use Prim.Native.Nat.{ℕ, _+_, _≤_, min}
 use native.Mathlib.Decide.{ℕ-discrete}
 use native.Mathlib.Omega.{arith}
 use lib.ListN.{length}
 use Rattle.rules.specs.Memory.{upd}
 use Rattle.rules.specs.Settings.{Settings}
-use Rattle.rules.specs.Step.{remote, Next, stay, to, over, Event, said, Machine}
+use Rattle.rules.specs.Step.{Next, stay, to, over, Event, said, Machine}
 use Rattle.rules.specs.Course as course
 use Rattle.rules.specs.Course.{Course, Turn, holds, idles, makes, ends}
 use Rattle.rules.specs.Tally.{Tally, spun, tally}
@@ -17,7 +17,7 @@ use Rattle.rules.proofs.Store.{upd-same, upd-other}
 use Rattle.rules.proofs.Plays as plays
 use Rattle.rules.proofs.Plays.{by-after, by-play, stopped-stays}
 use Rattle.rules.proofs.Counts.{taken-few}
-use Rattle.laws.specs.Laws.{Prefix, Begins}
+use Rattle.laws.specs.Laws.{Begins}
 
 -- ---- what a turn adds
 

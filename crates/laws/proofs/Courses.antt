@@ -1,18 +1,18 @@
 -- Rounds and hold turns, of any machine.
-use mathlib.Core.Path.{_≡_, refl, sym, ap, _∙_}
+use mathlib.Core.Path.{_≡_, refl, sym, _∙_}
 use mathlib.Core.Logic.{_≢_, _⊎_, inl, inr}
 use mathlib.Core.Bool.{Bool, true, false, _&&_}
 use mathlib.Core.List.{List, [], _∷_, _++_}
-use Prim.Native.Nat.{ℕ, zero, suc, _+_, _-_, _≤_, _<_}
+use Prim.Native.Nat.{ℕ, _+_, _-_, _≤_, _<_}
 use native.Mathlib.Decide.{ℕ-discrete}
 use native.Mathlib.Omega.{arith}
-use borrow.Author.Tests.{eq-eqb, ne-eqb, lt-ltb, le-ltb, eqb-false, eqb-true}
+use borrow.Author.Tests.{eq-eqb, ne-eqb, lt-ltb, le-ltb, eqb-false}
 use lib.Dec.{eqb, ltb}
 use Rattle.rules.specs.Memory.{pick, upd}
 use Rattle.rules.specs.Settings.{Settings, entry}
 use Rattle.rules.specs.Step.{Kind, join, grant, release, arrive, leave, Says, nothing, one, two, said, Next, stay, to, over, Machine}
 use Rattle.rules.specs.Course.{Course, Turn, holds, idles, makes, turn, begins, holding, goes, ends, says, course}
-use Rattle.rules.specs.Play.{Run, first, next, taking, after, play, whole}
+use Rattle.rules.specs.Play.{Run, next, taking, after, play, whole}
 use Rattle.rules.proofs.Store.{upd-same, upd-other, either, by-test, false-true}
 use Rattle.rules.proofs.Plays.{by-after, by-whole, continued, goes-on, after-taken}
 use Rattle.laws.specs.Laws.{times, GrantOrLeave, Courses}

@@ -11,13 +11,13 @@ use lib.Dec.{eqb, leb, ltb}
 use lib.ListN.{length}
 use Rattle.rules.specs.Memory.{pick}
 use Rattle.rules.specs.Bounds.{mostProcs, mostTicket, mostBudget, mostRounds, mostHold, mostTurns}
-use Rattle.rules.specs.Settings.{Settings, entry, noSettings}
+use Rattle.rules.specs.Settings.{Settings, entry}
 use Rattle.rules.specs.Play.{whole}
 use Rattle.rules.specs.Machines.{numbered, known, machine}
 use Rattle.rules.specs.Rule.{Got, ok, fault}
 use Rattle.rules.specs.File.{file, text}
 use Rattle.rules.specs.Calls.{all, inRow, inRange, allBelow, refusal, acceptedRead, refusedRead, readingOf, reading, acceptedWrite, refusedWrite, writeRefusal, writing, Record, acceptedRun, refusedRun, runRefusal, Running, running}
-use Rattle.rules.proofs.Store.{by-test, both, all-true, false-true, zero-suc}
+use Rattle.rules.proofs.Store.{by-test, all-true, false-true, zero-suc}
 use Rattle.rules.proofs.Accepted.{Row, row-holds, Below, below, tests}
 use Rattle.rules.proofs.Known.{known-number, unknown-number}
 use Rattle.laws.specs.Laws.{Unknown, Outside, procs-low, procs-high, home-high, ticket-high, budget-high, rounds-high, hold-high, rounds-past, hold-past, TooMany, Stray, First, gives-0, gives-2, gives-3, gives-4, gives-5, gives-6}

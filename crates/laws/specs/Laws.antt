@@ -18,7 +18,7 @@ use Rattle.rules.specs.Mcs as mcs
 use Rattle.rules.specs.Dissem.{doublings}
 use Rattle.rules.specs.Machines.{lock, numbered, machine}
 use Rattle.rules.specs.File.{text}
-use Rattle.rules.specs.Calls.{over, allBelow, refusal, Record, Reading, reading, Writing, writing, acceptedRun, Running, running}
+use Rattle.rules.specs.Calls.{over, allBelow, refusal, Record, Reading, reading, Writing, writing, acceptedRun, running}
 use Rattle.rules.specs.Cases.{All, cases}
 
 -- ---- words

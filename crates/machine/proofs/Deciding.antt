@@ -2,26 +2,24 @@
 use mathlib.Core.Path.{_≡_, refl, sym, ap, ap₂, _∙_, subst}
 use mathlib.Core.Logic.{_≢_}
 use mathlib.Core.Bool.{Bool, true, false, _&&_}
-use mathlib.Core.List.{List, [], _∷_}
+use mathlib.Core.List.{List, _∷_}
 use Prim.Native.Nat.{ℕ, zero, suc, _+_, _*_, _≤_, _<_}
 use native.Mathlib.Decide.{ℕ-discrete}
 use native.Mathlib.Nat.{add-zero}
 use native.Mathlib.Omega.{arith}
-use borrow.Author.Tests.{eq-eqb, ne-eqb, le-leb, lt-leb}
+use borrow.Author.Tests.{ne-eqb, le-leb, lt-leb}
 use lib.Dec.{eqb, leb}
 use lib.ListN.{length, replicate}
 use Rattle.rules.specs.Memory.{pick}
-use Rattle.rules.specs.Bounds.{mostProcs}
 use Rattle.rules.specs.Settings.{Settings}
-use Rattle.rules.specs.Step.{Machine}
 use Rattle.rules.specs.Tally.{Tally}
 use Rattle.rules.specs.Play.{Run, whole}
-use Rattle.rules.specs.Machines.{numbered, known, machine}
+use Rattle.rules.specs.Machines.{known, machine}
 use Rattle.rules.specs.Calls as rules
-use Rattle.rules.specs.Calls.{over, refusal, runRefusal, refusedRun, acceptedRun, records, running}
+use Rattle.rules.specs.Calls.{over, refusal, acceptedRun, records, running}
 use Rattle.rules.proofs.Store.{false-true}
 use Rattle.rules.proofs.Known.{unknown-number}
-use Rattle.rules.proofs.Accepted.{Accepted, accepted, accepts, refusal-room}
+use Rattle.rules.proofs.Accepted.{accepted, accepts, refusal-room}
 use Rattle.rules.proofs.Views.{column}
 use Rattle.machine.specs.declared.core.Outcome.{Outcome}
 use Rattle.turns.specs.declared.played.Played.{Played}

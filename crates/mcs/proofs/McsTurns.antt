@@ -1,14 +1,14 @@
 -- Laws for the MCS lock's `turn`: one for each way that a step goes, and what it names stays sound.
 use mathlib.Core.Logic.{_⊎_, inl, inr}
 use mathlib.Core.Path.{_≡_, refl, sym, ap, _∙_}
-use mathlib.Core.Bool.{Bool, true, false}
-use mathlib.Core.List.{List, [], _∷_}
+use mathlib.Core.Bool.{true, false}
+use mathlib.Core.List.{[], _∷_}
 use Prim.Native.Nat.{ℕ, suc, _+_, _-_, _≤_, _<_}
 use native.Mathlib.Numerals.{add-one}
 use native.Mathlib.Omega.{arith}
 use borrow.Author.Tests.{eq-eqb, ne-eqb}
 use lib.Dec.{eqb}
-use Rattle.rules.specs.Memory.{pick, upd, each}
+use Rattle.rules.specs.Memory.{upd, each}
 use Rattle.rules.specs.Settings.{Settings}
 use Rattle.rules.specs.Step.{remote}
 use Rattle.rules.specs.Course.{Course}

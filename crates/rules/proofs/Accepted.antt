@@ -1,10 +1,10 @@
 -- What is known of a call that write and run do not refuse; and that nothing more is needed.
 use mathlib.Core.Path.{_≡_, refl}
-use mathlib.Core.Bool.{Bool, true, false, _&&_}
+use mathlib.Core.Bool.{Bool, true, false}
 use mathlib.Core.List.{List, [], _∷_, _++_}
 use Prim.Native.Nat.{ℕ, zero, suc, _+_, _-_, _≤_, _<_}
 use native.Mathlib.Omega.{arith}
-use borrow.Author.Tests.{leb-true, ltb-true, ltb-false, eqb-true, le-leb, lt-ltb, le-ltb, eq-eqb}
+use borrow.Author.Tests.{leb-true, ltb-true, ltb-false, eqb-true, le-leb, lt-ltb, eq-eqb}
 use lib.Dec.{eqb, leb, ltb}
 use lib.ListN.{length}
 use Rattle.rules.specs.Memory.{pick}
@@ -12,7 +12,7 @@ use Rattle.rules.specs.Bounds.{mostProcs, mostTicket, mostBudget, mostRo
 use Rattle.rules.specs.Settings.{Settings, entry}
 use Rattle.rules.specs.Machines.{numbered, known}
 use Rattle.rules.specs.Calls.{inRow, inRange, allBelow, refusal}
-use Rattle.rules.proofs.Store.{both, left-of, true-all, all-true, false-true}
+use Rattle.rules.proofs.Store.{both, true-all, all-true}
 
 -- ---- a row
 

@@ -1,14 +1,14 @@
 -- A loop over the schedule, of any machine: what is left, played from the run so far, gives the whole run.
 use mathlib.Core.Path.{_≡_, refl, sym, ap, _∙_}
-use mathlib.Core.Bool.{Bool, false}
+use mathlib.Core.Bool.{false}
 use mathlib.Core.List.{List, [], _∷_, _++_, map}
-use Prim.Native.Nat.{ℕ, zero, suc, _+_, _*_, _≤_, _<_, max}
+use Prim.Native.Nat.{ℕ, _+_, _*_, _≤_, _<_}
 use native.Mathlib.Decide.{ℕ-discrete}
 use native.Mathlib.Omega.{arith}
 use lib.ListN.{length, length-append, getD, drop}
-use Rattle.rules.specs.Memory.{pick, upd}
+use Rattle.rules.specs.Memory.{upd}
 use Rattle.rules.specs.Settings.{Settings}
-use Rattle.rules.specs.Step.{Event, said, code, Machine}
+use Rattle.rules.specs.Step.{said, code, Machine}
 use Rattle.rules.specs.Course as course
 use Rattle.rules.specs.Course.{Course, Turn, holds, idles, makes, turn}
 use Rattle.rules.specs.Tally.{Tally, tally}

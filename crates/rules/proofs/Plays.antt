@@ -9,7 +9,6 @@ use borrow.Author.Tests.{le-leb, lt-leb, leb-true, ltb-true, ltb-false, eqb-true
 use lib.Dec.{eqb, leb, ltb}
 use lib.ListN.{length, getD, drop}
 use lib.Seq.{drop-length, drop-cons}
-use Rattle.rules.specs.Memory.{pick}
 use Rattle.rules.specs.Settings.{Settings, entry}
 use Rattle.rules.specs.Step.{Machine}
 use Rattle.rules.specs.Course.{Course, Turn, holds, idles, makes, turn}

@@ -1,8 +1,8 @@
 -- A turn as a program makes it: the memory and the course after it, and what is told of it to those who count.
-use mathlib.Core.Path.{_≡_, refl, sym, ap, ap₂, _∙_, fun-ext}
+use mathlib.Core.Path.{_≡_, refl, sym, ap, _∙_, fun-ext}
 use mathlib.Core.Bool.{Bool, true, false, _&&_}
-use mathlib.Core.List.{List, [], _∷_, _++_, map}
-use Prim.Native.Nat.{ℕ, zero, suc, _+_, _-_, _≤_, _<_, max}
+use mathlib.Core.List.{List, [], map}
+use Prim.Native.Nat.{ℕ, _+_, _-_, _≤_, _<_, max}
 use native.Mathlib.Decide.{ℕ-discrete}
 use native.Mathlib.Omega.{arith}
 use borrow.Author.Tests.{lt-ltb, le-ltb, eq-eqb}
@@ -10,7 +10,7 @@ use lib.Dec.{eqb, ltb}
 use lib.ListN.{length, length-map}
 use Rattle.rules.specs.Memory.{pick, upd}
 use Rattle.rules.specs.Settings.{Settings, entry}
-use Rattle.rules.specs.Step.{Access, remote, Says, said, code, Next, stay, to, over, Step, Machine}
+use Rattle.rules.specs.Step.{remote, said, code, Next, stay, to, over, Step, Machine}
 use Rattle.rules.specs.Course as course
 use Rattle.rules.specs.Course.{Course, Turn, holds, idles, makes, turn, holding}
 use Rattle.rules.specs.Tally.{Tally, tally, spun}

@@ -1,6 +1,6 @@
 -- What each of the three calls gives, for every input: its answer, and what it leaves in each lent buffer ('Numbers of refusal', 'What a run gives').
 use Prim.Native.Nat.{ℕ, zero, suc, _+_, _*_}
-use mathlib.Core.Bool.{Bool, true, false, _&&_}
+use mathlib.Core.Bool.{Bool, true, _&&_}
 use mathlib.Core.List.{List, [], _∷_, _++_, map}
 use lib.Dec.{eqb, leb, ltb}
 use lib.ListN.{length, drop}

@@ -1,14 +1,14 @@
 -- The settings file ('The file'): how it is read, and how it is written.
 use Prim.Native.Nat.{ℕ, zero, suc, _+_, _-_, _/_, _%_}
 use mathlib.Core.List.{List, [], _∷_, _++_}
-use mathlib.Core.Bool.{Bool, false, _&&_}
+use mathlib.Core.Bool.{false, _&&_}
 use lib.Dec.{eqb, leb, ltb}
 use lib.ListN.{set}
 use Rattle.rules.specs.Memory.{pick}
 use Rattle.rules.specs.Bounds.{mostProcs, mostTicket, mostBudget, mostRounds, mostHold, mostTurns}
 use Rattle.rules.specs.Settings.{Settings, entry, zeros}
 use Rattle.rules.specs.Machines.{bytes, known, named, numbered}
-use Rattle.rules.specs.Rule.{Got, ok, fault, Rule, after, _>>=_, _>>_, give, checked, feed, comma, lit, end, word, number}
+use Rattle.rules.specs.Rule.{ok, fault, Rule, _>>=_, _>>_, give, checked, feed, comma, lit, end, word, number}
 
 -- ---- how a number is written
 

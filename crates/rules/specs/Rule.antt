@@ -1,8 +1,8 @@
 -- What a reading rule is. A rule looks at the bytes that are left and at their place in the file. It answers a value, what is left
 -- after it and the place of that; or the number of a refusal and its place. The first fault found decides.
-use Prim.Native.Nat.{ℕ, suc, _+_, _-_, _*_}
+use Prim.Native.Nat.{ℕ, _+_, _-_, _*_}
 use mathlib.Core.List.{List, [], _∷_, _++_}
-use mathlib.Core.Bool.{Bool, true, false, _&&_, _||_}
+use mathlib.Core.Bool.{Bool, _&&_, _||_}
 use lib.Dec.{eqb, leb, ltb}
 use Rattle.rules.specs.Memory.{pick}
 use Rattle.rules.specs.Bounds.{mostLetters, mostDigits}

@@ -1,27 +1,26 @@
 -- The entries keep what the laws say of the rules: each follows from a promise, which is an equation with the rules, and a law.
-use mathlib.Core.Path.{_≡_, refl, sym, ap, _∙_}
-use mathlib.Core.List.{List, [], _∷_, _++_, map}
+use mathlib.Core.Path.{_≡_, sym, ap, _∙_}
+use mathlib.Core.List.{List, _++_, map}
 use Prim.Native.Nat.{ℕ, _≤_}
 use lib.ListN.{length, take, length-map}
 use lib.Seq.{take-append-seam}
 use Rattle.rules.specs.Bounds.{mostProcs}
 use Rattle.rules.specs.Settings as rules
-use Rattle.rules.specs.Step.{code, join, Event}
-use Rattle.rules.specs.Play.{Run, whole}
+use Rattle.rules.specs.Step.{code}
+use Rattle.rules.specs.Play.{Run}
 use Rattle.rules.specs.Machines.{machine}
 use Rattle.rules.specs.Calls as calls
-use Rattle.rules.specs.Calls.{over, acceptedRun, running}
-use Rattle.laws.specs.Laws.{Laws, Prefix, of, InLine, Accepts, eventsOf, ComesNext, AtMost, mostReferences}
+use Rattle.rules.specs.Calls.{over, acceptedRun}
+use Rattle.laws.specs.Laws.{InLine, Accepts, AtMost, mostReferences}
 use Rattle.laws.proofs.All.{all-laws}
 use Rattle.settings.specs.View.{settingsOf}
 use Rattle.settings.specs.declared.Settings.{Settings}
-use Rattle.machine.specs.RunView.{recordOf, answerOf}
+use Rattle.machine.specs.RunView.{recordOf}
 use Rattle.reader.specs.declared.reading.ReadAnswer.{ReadAnswer}
-use Rattle.reader.specs.ReadView as read-view
 use Rattle.reader.specs.ReadView.{ReadIs}
 use Rattle.writer.specs.declared.writing.Written.{Written}
 use Rattle.writer.specs.WriteView.{WriteIs}
-use Rattle.text.specs.Entries.{FileRun, said, Demand, Entries}
+use Rattle.text.specs.Entries.{FileRun, said, Entries}
 
 -- ---- the round trips
 

@@ -1,11 +1,11 @@
 -- Laws for the ticket lock's `turn`: one for each step.
-use mathlib.Core.Path.{_≡_, refl, sym, ap, _∙_}
-use mathlib.Core.Bool.{Bool, true, false}
-use mathlib.Core.List.{List, [], _∷_}
+use mathlib.Core.Path.{_≡_, refl}
+use mathlib.Core.Bool.{true, false}
+use mathlib.Core.List.{[], _∷_}
 use Prim.Native.Nat.{ℕ, _+_}
 use borrow.Author.Tests.{eq-eqb, ne-eqb}
 use lib.Dec.{eqb}
-use Rattle.rules.specs.Memory.{pick, upd}
+use Rattle.rules.specs.Memory.{upd}
 use Rattle.rules.specs.Settings.{Settings}
 use Rattle.rules.specs.Step.{remote}
 use Rattle.rules.specs.Course.{Course}

@@ -1,14 +1,13 @@
 -- Laws for the function `turn` of any machine: one for each way that a turn goes.
-use mathlib.Core.Path.{_≡_, refl, sym, ap, _∙_}
+use mathlib.Core.Path.{_≡_, refl, sym, _∙_}
 use mathlib.Core.Bool.{Bool, true, false, _&&_}
 use mathlib.Core.List.{List, []}
-use Prim.Native.Nat.{ℕ, _+_, _-_, _<_}
-use native.Mathlib.Omega.{arith}
+use Prim.Native.Nat.{ℕ, _-_}
 use borrow.Author.Tests.{eq-eqb}
 use lib.Dec.{eqb}
 use Rattle.rules.specs.Memory.{pick}
 use Rattle.rules.specs.Settings.{Settings, entry}
-use Rattle.rules.specs.Step.{Next, stay, to, over, Step, Machine}
+use Rattle.rules.specs.Step.{stay, to, over, Step, Machine}
 use Rattle.rules.specs.Course as course
 use Rattle.rules.specs.Course.{Course, makes, holding}
 use Rattle.rules.proofs.Turned.{Told, toldStep, by-hold, by-idle, by-step, after-stay, after-to, after-grant, after-over, after-leave}

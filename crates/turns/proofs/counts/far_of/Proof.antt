@@ -1,6 +1,5 @@
 -- `turns::counts::far_of` meets its contract.
-use borrow.Author.Needs.{needs}
-use mathlib.Core.Path.{_≡_, refl}
+use mathlib.Core.Path.{refl}
 use native.Mathlib.Omega.{arith}
 use borrow.Author.Tests.{eq-eqb, ne-eqb}
 use Rattle.turns.proofs.counts.far_of.Statement.{statement}

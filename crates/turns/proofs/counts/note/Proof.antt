@@ -3,7 +3,6 @@ use borrow.Author.Needs.{needs}
 use borrow.Author.Tests.{eq-eqb, ne-eqb}
 use native.Mathlib.Omega.{arith}
 use native.Mathlib.Numerals.{add-one}
-use mathlib.Core.Path.{_≡_, refl}
 use lib.ListN.{length-set}
 use Rattle.turns.proofs.counts.note.Statement.{statement}
 use Rattle.turns.proofs.counts.note.Tie as tie

@@ -1,6 +1,6 @@
 -- `central::barrier::Central::start` meets its contract.
 use borrow.Author.Needs.{needs}
-use mathlib.Core.Path.{_≡_, refl, sym}
+use mathlib.Core.Path.{refl, sym}
 use Rattle.rules.proofs.Views.{view-blank}
 use Rattle.central.proofs.CentralTurns.{same-state}
 use Rattle.central.proofs.barrier.Central.start.Statement.{statement}

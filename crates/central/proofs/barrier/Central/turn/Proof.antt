@@ -1,6 +1,6 @@
 -- `central::barrier::Central::turn` meets its contract: each return is one way that a turn goes.
 use borrow.Author.Needs.{needs}
-use mathlib.Core.Path.{_≡_, refl, ap}
+use mathlib.Core.Path.{refl, ap}
 use Rattle.rules.specs.Central.{machine}
 use Rattle.rules.proofs.Views.{Place, view-at}
 use Rattle.turns.specs.View.{toldOf}

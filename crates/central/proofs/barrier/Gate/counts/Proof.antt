@@ -1,6 +1,6 @@
 -- `central::barrier::Gate::counts` meets its contract.
 use borrow.Author.Needs.{needs}
-use mathlib.Core.Path.{_≡_, refl}
+use mathlib.Core.Path.{refl}
 use Rattle.rules.proofs.Views.{Place, view-put, view-at}
 use Rattle.central.proofs.CentralTurns.{same-state}
 use Rattle.central.proofs.barrier.Gate.counts.Statement.{statement}

@@ -1,6 +1,6 @@
 -- `mcs::lock::Mcs::start` meets its contract.
 use borrow.Author.Needs.{needs}
-use mathlib.Core.Path.{_≡_, refl}
+use mathlib.Core.Path.{refl}
 use Rattle.rules.proofs.Views.{view-blank}
 use Rattle.mcs.proofs.McsTurns.{same-state, sound-blank}
 use Rattle.mcs.proofs.lock.Mcs.start.Statement.{statement}

@@ -1,7 +1,7 @@
 -- `mcs::lock::Mcs::turn` meets its contract: each return is one way that a turn goes.
 use borrow.Author.Needs.{needs}
 use mathlib.Core.Logic.{inl, inr}
-use mathlib.Core.Path.{_≡_, refl, ap, _∙_}
+use mathlib.Core.Path.{refl, ap}
 use native.Mathlib.Omega.{arith}
 use Rattle.rules.specs.Mcs.{machine}
 use Rattle.rules.proofs.Views.{view}

@@ -1,6 +1,6 @@
 -- `ticket::lock::Lock::asks` meets its contract.
 use borrow.Author.Needs.{needs}
-use mathlib.Core.Path.{_≡_, refl}
+use mathlib.Core.Path.{refl}
 use Rattle.rules.proofs.Views.{Place, view-put}
 use Rattle.ticket.proofs.TicketTurns.{same-state}
 use Rattle.ticket.proofs.lock.Lock.asks.Statement.{statement}

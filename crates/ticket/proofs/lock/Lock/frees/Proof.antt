@@ -1,6 +1,6 @@
 -- `ticket::lock::Lock::frees` meets its contract.
 use borrow.Author.Needs.{needs}
-use mathlib.Core.Path.{_≡_, refl}
+use mathlib.Core.Path.{refl}
 use Rattle.ticket.proofs.TicketTurns.{same-state}
 use Rattle.ticket.proofs.lock.Lock.frees.Statement.{statement}
 use Rattle.ticket.proofs.lock.Lock.frees.Tie as tie

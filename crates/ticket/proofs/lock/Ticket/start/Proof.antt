@@ -1,6 +1,6 @@
 -- `ticket::lock::Ticket::start` meets its contract.
 use borrow.Author.Needs.{needs}
-use mathlib.Core.Path.{_≡_, refl, sym}
+use mathlib.Core.Path.{sym}
 use Rattle.rules.proofs.Views.{view-blank}
 use Rattle.ticket.proofs.TicketTurns.{same-state}
 use Rattle.ticket.proofs.lock.Ticket.start.Statement.{statement}

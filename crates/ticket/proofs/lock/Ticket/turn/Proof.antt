@@ -1,6 +1,6 @@
 -- `ticket::lock::Ticket::turn` meets its contract: each return is one way that a turn goes.
 use borrow.Author.Needs.{needs}
-use mathlib.Core.Path.{_≡_, refl, ap, _∙_}
+use mathlib.Core.Path.{refl, ap}
 use Rattle.rules.specs.Ticket.{machine}
 use Rattle.rules.proofs.Views.{view}
 use Rattle.turns.specs.View.{toldOf}

@@ -2,7 +2,6 @@
 use borrow.Author.Needs.{needs}
 use mathlib.Core.Path.{refl}
 use native.Mathlib.Omega.{arith}
-use Rattle.rules.proofs.Views.{view-put, view-at}
 use Rattle.turns.proofs.Courses.{Rows, same-course, steps-put, lefts-none}
 use Rattle.turns.proofs.course.Course.goes.Statement.{statement}
 use Rattle.turns.proofs.course.Course.goes.Tie as tie

@@ -1,8 +1,6 @@
 -- `turns::course::Course::granted` meets its contract.
 use borrow.Author.Needs.{needs}
 use mathlib.Core.Path.{refl}
-use native.Mathlib.Omega.{arith}
-use Rattle.rules.proofs.Views.{view-put, view-at}
 use Rattle.turns.proofs.Courses.{Rows, same-course, steps-put, lefts-put, after-step, after-left}
 use Rattle.turns.proofs.course.Course.granted.Statement.{statement}
 use Rattle.turns.proofs.course.Course.granted.Tie as tie

@@ -1,8 +1,6 @@
 -- `turns::course::Course::held` meets its contract.
 use borrow.Author.Needs.{needs}
 use mathlib.Core.Path.{refl}
-use native.Mathlib.Omega.{arith}
-use Rattle.rules.proofs.Views.{view-put, view-at}
 use Rattle.turns.proofs.Courses.{Rows, same-course, held-steps, held-lefts}
 use Rattle.turns.proofs.course.Course.held.Statement.{statement}
 use Rattle.turns.proofs.course.Course.held.Tie as tie

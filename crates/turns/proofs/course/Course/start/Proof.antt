@@ -1,5 +1,4 @@
 -- `turns::course::Course::start` meets its contract.
-use borrow.Author.Needs.{needs}
 use Rattle.rules.proofs.Views.{view-blank}
 use Rattle.turns.proofs.Courses.{same-course, first-steps, first-lefts}
 use Rattle.turns.proofs.course.Course.start.Statement.{statement}
