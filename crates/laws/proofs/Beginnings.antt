@@ -8,7 +8,7 @@ use native.Mathlib.Omega.{arith}
 use lib.ListN.{length}
 use Rattle.rules.specs.Memory.{upd}
 use Rattle.rules.specs.Settings.{Settings}
-use Rattle.rules.specs.Step.{Next, stay, to, over, Event, said, Machine}
+use Rattle.rules.specs.Step.{Next, stay, again, to, over, Event, said, Machine}
 use Rattle.rules.specs.Course as course
 use Rattle.rules.specs.Course.{Course, Turn, holds, idles, makes, ends}
 use Rattle.rules.specs.Tally.{Tally, spun, tally}
@@ -30,11 +30,13 @@ stored f i v h j = go (ℕ-discrete j i)
 
 ended≥ : (x : Next) (f : ℕ → ℕ) (i j : ℕ) → f j ≤ ends x i f j
 ended≥ stay f i j = omega arith
+ended≥ (again k) f i j = omega arith
 ended≥ (to k) f i j = omega arith
 ended≥ over f i j = stored f i (f i + 1) (omega arith) j
 
 spun≥ : (x : Next) (f : ℕ → ℕ) (i j : ℕ) → f j ≤ spun x i f j
 spun≥ stay f i j = stored f i (f i + 1) (omega arith) j
+spun≥ (again k) f i j = stored f i (f i + 1) (omega arith) j
 spun≥ (to k) f i j = omega arith
 spun≥ over f i j = omega arith
 

@@ -10,7 +10,7 @@ use borrow.Author.Tests.{eq-eqb, ne-eqb, lt-ltb, le-ltb, eqb-false}
 use lib.Dec.{eqb, ltb}
 use Rattle.rules.specs.Memory.{pick, upd}
 use Rattle.rules.specs.Settings.{Settings, entry}
-use Rattle.rules.specs.Step.{Kind, join, grant, release, arrive, leave, Says, nothing, one, two, said, Next, stay, to, over, Machine}
+use Rattle.rules.specs.Step.{Kind, join, grant, release, arrive, leave, Says, nothing, one, two, said, Next, stay, again, to, over, Machine}
 use Rattle.rules.specs.Course.{Course, Turn, holds, idles, makes, turn, begins, holding, goes, ends, says, course}
 use Rattle.rules.specs.Play.{Run, next, taking, after, play, whole}
 use Rattle.rules.proofs.Store.{upd-same, upd-other, either, by-test, false-true}
@@ -109,11 +109,13 @@ module _ (m : Machine) (s : Settings) where
 
   due-step : (x : Next) (at done : ℕ → ℕ) (i n : ℕ) → done i < n → Due (goes x i at i) (ends x i done i) n
   due-step stay at done i n h = (omega arith, inr h)
+  due-step (again k) at done i n h = (omega arith, inr h)
   due-step (to k) at done i n h = (omega arith, inr h)
   due-step over at done i n h = rw (upd-same at i 1, upd-same done i (done i + 1)) (omega arith, inl refl)
 
   due-other : (x : Next) (at done : ℕ → ℕ) (i j n : ℕ) → j ≢ i → Due (at j) (done j) n → Due (goes x i at j) (ends x i done j) n
   due-other stay at done i j n d h = h
+  due-other (again k) at done i j n d h = rw (upd-other at i k j d) h
   due-other (to k) at done i j n d h = rw (upd-other at i k j d) h
   due-other over at done i j n d h = rw (upd-other at i 1 j d, upd-other done i (done i + 1) j d) h
 

@@ -56,7 +56,7 @@ begun s t u a = record {
 pub lock-run : (s : Settings) (t : List ℕ) → Accepted s t → numbered (s .algo) .sort ≡ lock → LockRun (machine (s .algo)) s t
 lock-run s t a =
     found (λ l. known l ≡ true → l .sort ≡ lock → LockRun (l .machine) s t) (λ l. eqb (s .algo) (l .number)) table
-    (λ k l. ticket-run (omega (arith, a .procs-high)) (a .ticket) b, (λ k l. queue-run b, (λ k. no-lock, (λ k. no-lock, λ k. absurd (false-true k))))) (a .algo)
+    (λ k l. ticket-run (omega (arith, a .procs-high)) (a .ticket) b, (λ k l. queue-run b, (λ k. no-lock, (λ k. no-lock, (λ k. no-lock, λ k. absurd (false-true k)))))) (a .algo)
   where
     b : allBelow (s .procs) t ≡ true
     b = all-below (s .procs) t (a .turns-below)

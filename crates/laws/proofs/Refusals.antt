@@ -13,7 +13,7 @@ use Rattle.rules.specs.Memory.{pick}
 use Rattle.rules.specs.Bounds.{mostProcs, mostTicket, mostBudget, mostRounds, mostHold, mostTurns}
 use Rattle.rules.specs.Settings.{Settings, entry}
 use Rattle.rules.specs.Play.{whole}
-use Rattle.rules.specs.Machines.{numbered, known, machine}
+use Rattle.rules.specs.Machines.{machines, numbered, known, machine}
 use Rattle.rules.specs.Rule.{Got, ok, fault}
 use Rattle.rules.specs.File.{file, text}
 use Rattle.rules.specs.Calls.{all, inRow, inRange, allBelow, refusal, acceptedRead, refusedRead, readingOf, reading, acceptedWrite, refusedWrite, writeRefusal, writing, Record, acceptedRun, refusedRun, runRefusal, Running, running}
@@ -47,13 +47,12 @@ settles-2 : (s : Settings) → Settled (Unknown s) (known (numbered (s .algo)))
 settles-2 s = settled (Unknown s) _ named nameless
   where
     named : known (numbered (s .algo)) ≡ true → ¬ Unknown s
-    named e (inl h) = false-true (sym (unknown-number (s .algo) (λ z. omega arith) (λ z. omega arith) (λ z. omega arith) (λ z. omega arith)) ∙ e)
-    named e (inr h) = false-true (sym (unknown-number (s .algo) (λ z. omega arith) (λ z. omega arith) (λ z. omega arith) (λ z. omega arith)) ∙ e)
+    named e u = false-true (sym (unknown-number (s .algo) u) ∙ e)
 
     nameless : known (numbered (s .algo)) ≡ false → Unknown s
-    nameless e = go (decLt (s .algo) 1) (decLt 4 (s .algo))
+    nameless e = go (decLt (s .algo) 1) (decLt machines (s .algo))
       where
-        go : Dec (s .algo < 1) → Dec (4 < s .algo) → Unknown s
+        go : Dec (s .algo < 1) → Dec (machines < s .algo) → Unknown s
         go (yes h) b = inl h
         go (no a) (yes h) = inr h
         go (no a) (no b) = absurd (false-true (sym e ∙ known-number (s .algo) (omega arith) (omega arith)))

@@ -16,7 +16,7 @@ use Rattle.rules.specs.Play.{Run, first, next, after, play, whole}
 use Rattle.rules.specs.Ticket as ticket
 use Rattle.rules.specs.Mcs as mcs
 use Rattle.rules.specs.Dissem.{doublings}
-use Rattle.rules.specs.Machines.{lock, numbered, machine}
+use Rattle.rules.specs.Machines.{lock, machines, numbered, machine}
 use Rattle.rules.specs.File.{text}
 use Rattle.rules.specs.Calls.{over, allBelow, refusal, Record, Reading, reading, Writing, writing, acceptedRun, running}
 use Rattle.rules.specs.Cases.{All, cases}
@@ -132,7 +132,7 @@ AtMost n (r ∷ l) = (r .most ≤ n) × AtMost n l
 
 -- 2 applies
 abbrev pub Unknown : Settings → Type 0
-Unknown s = (s .algo < 1) ⊎ (4 < s .algo)
+Unknown s = (s .algo < 1) ⊎ (machines < s .algo)
 
 -- 3 applies: a value outside its range, or an entry for a processor from P on that is not zero
 pub data Outside (s : Settings) : Type 0 where

@@ -6,7 +6,7 @@ use lib.Dec.{eqb}
 use lib.ListN.{length, length-append}
 use Rattle.rules.specs.Memory.{upd}
 use Rattle.rules.specs.Settings.{Settings}
-use Rattle.rules.specs.Step.{remote, Next, stay, to, over, said, Machine}
+use Rattle.rules.specs.Step.{remote, Next, stay, again, to, over, said, Machine}
 use Rattle.rules.specs.Course as course
 use Rattle.rules.specs.Course.{Course, Turn, holds, idles, makes, ends}
 use Rattle.rules.specs.Tally.{Tally, spun, begun, tally}
@@ -36,11 +36,13 @@ stored f i v n p q j = either (λ k. k ≤ n + 1) (eqb j i) v (f j) q (omega (ar
 
 ended≤ : (x : Next) (f : ℕ → ℕ) (i n : ℕ) → ((j : ℕ) → f j ≤ n) → (j : ℕ) → ends x i f j ≤ n + 1
 ended≤ stay f i n h = more f n h
+ended≤ (again k) f i n h = more f n h
 ended≤ (to k) f i n h = more f n h
 ended≤ over f i n h = stored f i _ n h (omega (arith, h i))
 
 spun≤ : (x : Next) (f : ℕ → ℕ) (i n : ℕ) → ((j : ℕ) → f j ≤ n) → (j : ℕ) → spun x i f j ≤ n + 1
 spun≤ stay f i n h = stored f i _ n h (omega (arith, h i))
+spun≤ (again k) f i n h = stored f i _ n h (omega (arith, h i))
 spun≤ (to k) f i n h = more f n h
 spun≤ over f i n h = more f n h
 

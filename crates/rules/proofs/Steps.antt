@@ -6,7 +6,7 @@ use native.Mathlib.Omega.{arith}
 use borrow.Author.Tests.{eq-eqb}
 use lib.Dec.{eqb}
 use lib.ListN.{length}
-use Rattle.rules.specs.Step.{Manner, Access, none, made, remote, Says, nothing, one, two, said, Next, stay, to, over}
+use Rattle.rules.specs.Step.{Manner, Access, none, made, remote, Says, nothing, one, two, said, Next, stay, again, to, over}
 use Rattle.rules.specs.Course.{goes}
 use Rattle.rules.proofs.Store.{upd-same, upd-other, either}
 
@@ -15,17 +15,20 @@ use Rattle.rules.proofs.Store.{upd-same, upd-other, either}
 -- the step that follows step k
 abbrev pub place : Next → ℕ → ℕ
 place stay k = k
+place (again j) k = j
 place (to j) k = j
 place over k = 1
 
 pub goes-same : (n : Next) (i : ℕ) (at : ℕ → ℕ) → goes n i at i ≡ place n (at i)
 goes-same stay i at = refl
+goes-same (again k) i at = upd-same at i k
 goes-same (to k) i at = upd-same at i k
 goes-same over i at = upd-same at i 1
 
 -- the others stay where they are
 pub goes-other : (n : Next) (i : ℕ) (at : ℕ → ℕ) (j : ℕ) → j ≢ i → goes n i at j ≡ at j
 goes-other stay i at j h = refl
+goes-other (again k) i at j h = upd-other at i k j h
 goes-other (to k) i at j h = upd-other at i k j h
 goes-other over i at j h = upd-other at i 1 j h
 

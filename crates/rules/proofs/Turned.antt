@@ -10,7 +10,7 @@ use lib.Dec.{eqb, ltb}
 use lib.ListN.{length, length-map}
 use Rattle.rules.specs.Memory.{pick, upd}
 use Rattle.rules.specs.Settings.{Settings, entry}
-use Rattle.rules.specs.Step.{remote, said, code, Next, stay, to, over, Step, Machine}
+use Rattle.rules.specs.Step.{remote, said, code, Next, stay, again, to, over, Step, Machine}
 use Rattle.rules.specs.Course as course
 use Rattle.rules.specs.Course.{Course, Turn, holds, idles, makes, turn, holding}
 use Rattle.rules.specs.Tally.{Tally, tally, spun}
@@ -34,11 +34,13 @@ pub record OneKind (d : Told) : Type 0 where
 
 abbrev pub stays : Next → Bool
 stays stay = true
+stays (again k) = true
 stays (to k) = false
 stays over = false
 
 abbrev pub ends : Next → Bool
 ends stay = false
+ends (again k) = false
 ends (to k) = false
 ends over = true
 
@@ -65,6 +67,7 @@ told-one i at (makes w) = record { of-spin = λ e. (refl, go (w .then) e); of-id
   where
     go : (x : Next) → stays x ≡ true → ends x ≡ false
     go stay e = refl
+    go (again k) e = refl
     go (to k) e = refl
     go over e = sym e
 
@@ -124,6 +127,9 @@ module _ {S : Type 0} (s : Settings) (i : ℕ) (c : Course) (w : Step S) (l : c 
   pub after-stay : w .then ≡ stay → holding (w .says) ≡ false → c ≡ course.course s i (makes w) c
   after-stay e h = rw (e, h, none-left)
 
+  pub after-again : (k : ℕ) → w .then ≡ again k → holding (w .says) ≡ false → record { at = upd (c .at) i k; left = upd (c .left) i 0; done = c .done } ≡ course.course s i (makes w) c
+  after-again k e h = rw (e, h)
+
   pub after-to : (k : ℕ) → w .then ≡ to k → holding (w .says) ≡ false → record { at = upd (c .at) i k; left = upd (c .left) i 0; done = c .done } ≡ course.course s i (makes w) c
   after-to k e h = rw (e, h)
 
@@ -174,6 +180,7 @@ tally-told i at (makes w) t h = same-tally _ _ refl refl refl (spins (w .then)) 
   where
     spins : (x : Next) → spun x i (t .spins) ≡ upd (t .spins) i (t .spins i + one-if (stays x))
     spins stay = refl
+    spins (again k) = refl
     spins (to k) = kept (t .spins) i
     spins over = kept (t .spins) i
 
@@ -206,5 +213,6 @@ done-told s i at (makes w) c = go (w .then)
   where
     go : (x : Next) → course.ends x i (c .done) ≡ upd (c .done) i (c .done i + one-if (ends x))
     go stay = kept (c .done) i
+    go (again k) = kept (c .done) i
     go (to k) = kept (c .done) i
     go over = refl

@@ -4,7 +4,7 @@ use mathlib.Core.Bool.{Bool, true, false, _&&_, _||_}
 use lib.Dec.{eqb, ltb}
 use Rattle.rules.specs.Memory.{pick, upd, each}
 use Rattle.rules.specs.Settings.{Settings, entry}
-use Rattle.rules.specs.Step.{Kind, join, grant, release, arrive, leave, Says, nothing, one, two, Next, stay, to, over, Step, Machine}
+use Rattle.rules.specs.Step.{Kind, join, grant, release, arrive, leave, Says, nothing, one, two, Next, stay, again, to, over, Step, Machine}
 
 -- of each processor: its next step, the hold turns left, the passages done
 pub record Course : Type 0 where
@@ -42,11 +42,13 @@ holding (two k l) = begins k || begins l
 
 abbrev pub goes : Next → ℕ → (ℕ → ℕ) → ℕ → ℕ
 goes stay i at = at
+goes (again k) i at = upd at i k
 goes (to k) i at = upd at i k
 goes over i at = upd at i 1
 
 abbrev pub ends : Next → ℕ → (ℕ → ℕ) → ℕ → ℕ
 ends stay i done = done
+ends (again k) i done = done
 ends (to k) i done = done
 ends over i done = upd done i (done i + 1)
 

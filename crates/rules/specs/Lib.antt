@@ -9,6 +9,7 @@ pub mod Ticket
 pub mod Mcs
 pub mod Central
 pub mod Dissem
+pub mod Tree
 pub mod Machines
 pub mod Rule
 pub mod File

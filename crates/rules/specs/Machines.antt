@@ -11,6 +11,7 @@ use Rattle.rules.specs.Ticket as ticket
 use Rattle.rules.specs.Mcs as mcs
 use Rattle.rules.specs.Central as central
 use Rattle.rules.specs.Dissem as dissem
+use Rattle.rules.specs.Tree as tree
 
 -- a text as its bytes
 abbrev pub bytes : String → List ℕ
@@ -41,7 +42,12 @@ table =
     ∷ line "mcs" 2 lock mcs.machine
     ∷ line "central" 3 barrier central.machine
     ∷ line "dissem" 4 barrier dissem.machine
+    ∷ line "tree" 5 barrier tree.machine
     ∷ []
+
+-- the machines' numbers are 1 to this
+abbrev pub machines : ℕ
+machines = 5
 
 -- the line of a number or name that is not known: its number is 0, and no call goes on to its machine
 abbrev pub noLine : Line

@@ -66,9 +66,11 @@ code e = number (e .kind) * 256 + e .who
 
 -- ---- the step
 
--- where a processor goes on: the same step again, which is a spin; another step; or nowhere, the passage is done
+-- where a processor goes on: the same step again, which is a spin; a spin too, but it goes on at another step; another step;
+-- or nowhere, the passage is done
 pub data Next : Type 0 where
   stay : Next
+  again : ℕ → Next
   to : ℕ → Next
   over : Next
 

@@ -2,7 +2,7 @@
 use Prim.Native.Nat.{ℕ, _+_, max}
 use lib.Dec.{eqb}
 use Rattle.rules.specs.Memory.{pick, upd, each}
-use Rattle.rules.specs.Step.{Access, none, remote, Next, stay, to, over}
+use Rattle.rules.specs.Step.{Access, none, remote, Next, stay, again, to, over}
 use Rattle.rules.specs.Course.{Turn, holds, idles, makes}
 
 -- of each processor: remote references, the most in any one passage begun, those of the passage begun last, spins, idle turns;
@@ -26,6 +26,7 @@ access (makes w) = w .access
 
 abbrev pub spun : Next → ℕ → (ℕ → ℕ) → ℕ → ℕ
 spun stay i spins = upd spins i (spins i + 1)
+spun (again k) i spins = upd spins i (spins i + 1)
 spun (to k) i spins = spins
 spun over i spins = spins
 

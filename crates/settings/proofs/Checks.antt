@@ -1,6 +1,7 @@
 -- One law for each way out of the checks, and for each function the set of its laws. Assumes nothing.
 -- above, le-of-lt, lt-trans and lit< are in a set so that a test that says more than a law asks serves it too.
 use mathlib.Core.Path.{_≡_, refl, sym, _∙_}
+use mathlib.Core.Logic.{inl, inr}
 use mathlib.Core.Bool.{Bool, true, false, _&&_}
 use mathlib.Core.List.{List, _∷_}
 use Prim.Native.Nat.{ℕ, _+_, _≤_, _<_}
@@ -14,7 +15,7 @@ use lib.ListN.{length, getD, drop, drop-of-length-le}
 use lib.Seq.{drop-cons}
 use Rattle.rules.specs.Bounds.{mostProcs, mostTicket, mostBudget, mostRounds, mostHold, mostTurns}
 use Rattle.rules.specs.Settings as rules
-use Rattle.rules.specs.Machines.{numbered, known}
+use Rattle.rules.specs.Machines.{machines, numbered, known}
 use Rattle.rules.specs.Calls.{inRow, inRange, allBelow, refusal}
 use Rattle.rules.proofs.Known.{known-number, unknown-number}
 use Rattle.settings.specs.View.{settingsOf, Checked}
@@ -27,14 +28,14 @@ above m x h e = omega arith
 -- ---- a machine's number
 
 module _ (n : ℕ) where
-  pub algo-known : 1 ≤ n → n < 5 → true ≡ known (numbered n)
+  pub algo-known : 1 ≤ n → n < machines + 1 → true ≡ known (numbered n)
   algo-known l h = sym (known-number n l (omega arith))
 
   pub algo-low : n < 1 → false ≡ known (numbered n)
-  algo-low h = sym (unknown-number n (λ e. omega arith) (λ e. omega arith) (λ e. omega arith) (λ e. omega arith))
+  algo-low h = sym (unknown-number n (inl h))
 
-  pub algo-high : 5 ≤ n → false ≡ known (numbered n)
-  algo-high h = sym (unknown-number n (λ e. omega arith) (λ e. omega arith) (λ e. omega arith) (λ e. omega arith))
+  pub algo-high : machines + 1 ≤ n → false ≡ known (numbered n)
+  algo-high h = sym (unknown-number n (inr (omega arith)))
 
 pub ruleset algos = (algo-known, algo-low, algo-high)
 

@@ -28,6 +28,8 @@ pub const CENTRAL: u16 = 3;
 
 pub const DISSEM: u16 = 4;
 
+pub const TREE: u16 = 5;
+
 // The numbers of refusal.
 pub const ACCEPTED: u8 = 0;
 
@@ -57,7 +59,7 @@ fn known(algo: u16) -> bool
     ensures { λ r. ⌜ r ≡ known (numbered algo) ⌝ }
 {
     match algo {
-        TICKET | MCS | CENTRAL | DISSEM => true,
+        TICKET | MCS | CENTRAL | DISSEM | TREE => true,
         _ => false,
     }
 }
