@@ -6,6 +6,7 @@ use Rattle.rules.specs.Dissem.{State}
 use Rattle.rules.proofs.Views.{view}
 use Rattle.dissem.specs.declared.barrier.Flags.{Flags}
 use Rattle.dissem.specs.declared.barrier.Dissem.{Dissem}
+use Rattle.turns.specs.BitView.{bits}
 use Rattle.turns.specs.View.{courseOf}
 
 -- of a processor's own byte
@@ -17,10 +18,6 @@ parityOf own = own / 2 % 2
 
 abbrev pub roundOf : ℕ → ℕ
 roundOf own = own / 4
-
--- of a processor's word of flags, by the number of the variable
-unfoldable pub bits : ℕ → ℕ → ℕ
-bits word v = word / 2 ^ v % 2
 
 -- every processor starts with sense 1, parity 0 and round 0: its byte is 1
 abbrev pub flagsOf : Flags → State

@@ -2,7 +2,9 @@
 use turns::Course;
 use turns::Due;
 use turns::Made;
+use turns::bit;
 use turns::made;
+use turns::with_bit;
 ghost use mathlib.Core.Path.{_≡_};
 ghost use mathlib.Core.Bool.{false};
 ghost use Prim.Native.Nat.{ℕ, _<_, _≤_, _+_, _-_, _*_, _/_, _%_, _^_};
@@ -10,7 +12,7 @@ ghost use lib.Dec.{eqb};
 ghost use Rattle.rules.specs.Memory.{pick, upd};
 ghost use Rattle.rules.specs.Dissem.{machine, doublings};
 ghost use Rattle.turns.specs.View.{toldOf, Starts, Turns};
-ghost use Rattle.dissem.specs.DissemView.{senseOf, parityOf, roundOf, bits, flagsOf, stateOf, courseIn, Sound};
+ghost use Rattle.dissem.specs.DissemView.{senseOf, parityOf, roundOf, flagsOf, stateOf, courseIn, Sound};
 
 // flags: of each processor its flags, variable v as bit v. own: its round * 4 + parity * 2 + sense.
 // gap: always 0. A number between two rows keeps them from being copied as one.
@@ -49,24 +51,6 @@ fn left(own: u8) -> u8
         2 => 1,
         _ => 0,
     }
-}
-
-fn bit(word: u16, v: u8) -> u16
-    requires { ⌜ v < 16 ⌝ }
-    ensures { λ r. ⌜ r ≡ bits word v ⌝ }
-{
-    (word >> v) % 2
-}
-
-// The word with this value at bit v.
-fn with_bit(word: u16, v: u8, value: u16) -> u16
-    requires { ⌜ (v < 16) × (value < 2) ⌝ }
-    ensures { λ r. ⌜ bits r ≡ upd (bits word) v value ⌝ }
-{
-    if bit(word, v) == value {
-        return word;
-    }
-    word ^ (1u16 << v)
 }
 
 // The processor that w tells in round k.

@@ -1,3 +1,4 @@
+pub mod Words
 pub mod Courses
 pub mod Turning
 pub mod Counting

@@ -7,10 +7,10 @@ use borrow.Author.Tests.{eq-eqb}
 use lib.Dec.{eqb}
 use Rattle.rules.specs.Memory.{pick}
 use Rattle.rules.specs.Settings.{Settings, entry}
-use Rattle.rules.specs.Step.{stay, to, over, Step, Machine}
+use Rattle.rules.specs.Step.{stay, again, to, over, Step, Machine}
 use Rattle.rules.specs.Course as course
 use Rattle.rules.specs.Course.{Course, makes, holding}
-use Rattle.rules.proofs.Turned.{Told, toldStep, by-hold, by-idle, by-step, after-stay, after-to, after-grant, after-over, after-leave}
+use Rattle.rules.proofs.Turned.{Told, toldStep, by-hold, by-idle, by-step, after-stay, after-again, after-to, after-grant, after-over, after-leave}
 use Rattle.turns.specs.declared.course.Due.{Due}
 use Rattle.turns.specs.declared.course.Due.the-variants as due
 use Rattle.turns.specs.declared.made.Made.{Made}
@@ -47,6 +47,10 @@ module _ (m : Machine) (P : Settings → Type 0) (w rounds hold : ℕ) (x : m .S
 
     pub turns-stay : ((s : Settings) → st s .then ≡ stay) → ((s : Settings) → holding (st s .says) ≡ false) → c′ ≡ c → Turns m P w rounds hold x c x′ c′ d
     turns-stay n q g = by (λ s h. g ∙ after-stay s w c (st s) (at-step .0) (n s) (q s))
+
+    pub turns-again : (j : ℕ) → ((s : Settings) → st s .then ≡ again j) → ((s : Settings) → holding (st s .says) ≡ false)
+        → c′ ≡ goneTo c w j 0 → Turns m P w rounds hold x c x′ c′ d
+    turns-again j n q g = by (λ s h. g ∙ after-again s w c (st s) (at-step .0) j (n s) (q s))
 
     pub turns-to : (j : ℕ) → ((s : Settings) → st s .then ≡ to j) → ((s : Settings) → holding (st s .says) ≡ false)
         → c′ ≡ goneTo c w j 0 → Turns m P w rounds hold x c x′ c′ d

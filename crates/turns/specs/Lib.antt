@@ -1,3 +1,4 @@
+pub mod BitView
 pub mod View
 pub mod CountView
 pub mod PlayView

@@ -1,9 +1,12 @@
 // What every machine's turn and run are made of: the course of a processor, what a turn tells, and how it is counted.
+mod bits;
 mod counts;
 mod course;
 pub mod made;
 mod played;
 
+pub use bits::bit;
+pub use bits::with_bit;
 pub use counts::far_of;
 pub use counts::tell;
 pub use course::Course;

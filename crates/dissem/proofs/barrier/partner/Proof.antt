@@ -3,7 +3,8 @@ use borrow.Author.Needs.{needs}
 use mathlib.Core.Path.{refl}
 use native.Mathlib.Omega.{arith}
 use native.Mathlib.Nat.{mod-lt}
-use Rattle.dissem.proofs.DissemFlags.{power, power≤}
+use Rattle.turns.proofs.Words.{power}
+use Rattle.dissem.proofs.DissemFlags.{power≤}
 use Rattle.dissem.proofs.barrier.partner.Statement.{statement}
 use Rattle.dissem.proofs.barrier.partner.Tie as tie
 

@@ -3,7 +3,7 @@ use borrow.Author.Needs.{needs}
 use mathlib.Core.Path.{refl}
 use native.Mathlib.Omega.{arith}
 use Rattle.rules.proofs.Views.{Place, view-at, view-part}
-use Rattle.dissem.specs.DissemView.{bits}
+use Rattle.turns.specs.BitView.{bits}
 use Rattle.dissem.proofs.DissemFlags.{same-flags}
 use Rattle.dissem.proofs.barrier.Flags.tells.Statement.{statement}
 use Rattle.dissem.proofs.barrier.Flags.tells.Tie as tie

@@ -1,10 +1,10 @@
--- `dissem::barrier::with_bit` meets its contract.
+-- `turns::bits::with_bit` meets its contract.
 use borrow.Author.Needs.{needs}
 use mathlib.Core.Path.{sym, _∙_}
 use native.Mathlib.Omega.{arith}
-use Rattle.dissem.proofs.DissemFlags.{bit-kept, bit-changed}
-use Rattle.dissem.proofs.barrier.with_bit.Statement.{statement}
-use Rattle.dissem.proofs.barrier.with_bit.Tie as tie
+use Rattle.turns.proofs.Words.{bit-kept, bit-changed}
+use Rattle.turns.proofs.bits.with_bit.Statement.{statement}
+use Rattle.turns.proofs.bits.with_bit.Tie as tie
 
 returns : tie.Need-returns
 returns c =
