@@ -7,7 +7,7 @@ use native.Mathlib.Decide.{ℕ-discrete}
 use native.Mathlib.Omega.{arith}
 use Rattle.rules.specs.Memory.{upd}
 use Rattle.rules.specs.Settings.{Settings}
-use Rattle.rules.specs.Step.{remote, Step, Machine}
+use Rattle.rules.specs.Step.{remote, Next, Step, Machine}
 use Rattle.rules.specs.Course.{Course, outset, makes, goes, ends, course}
 use Rattle.rules.specs.Tally.{Tally, blank, begun, tally}
 use Rattle.rules.specs.Play.{Run, taking, after, whole}
@@ -28,15 +28,17 @@ pub record Account : Type 0 where
 abbrev pub account : Course → Tally → ℕ → Account
 account c t i = record { at = c .at i; done = c .done i; here = t .here i; far = t .far i; most = t .most i }
 
--- after a step of its own
-abbrev pub stepped : {S : Type 0} → ℕ → Step S → Account → Account
-stepped i w a =
-    let r : ℕ = remote i (w .access) in
+-- after a step of its own, of r references, that goes on so
+abbrev pub stepped : Next → (r : ℕ) → Account → Account
+stepped n r a =
     let h : ℕ = begun (a .at) (a .here) + r in
-    record { at = place (w .then) (a .at); done = passed (w .then) (a .done); here = h; far = a .far + r; most = max (a .most) h }
+    record { at = place n (a .at); done = passed n (a .done); here = h; far = a .far + r; most = max (a .most) h }
+
+abbrev pub after-step : {S : Type 0} → ℕ → Step S → Account → Account
+after-step i w = stepped (w .then) (remote i (w .access))
 
 module _ {S : Type 0} (s : Settings) (c : Course) (t : Tally) (i : ℕ) (w : Step S) where
-  own-step : account (course s i (makes w) c) (tally i (c .at i) (makes w) t) i ≡ stepped i w (account c t i)
+  own-step : account (course s i (makes w) c) (tally i (c .at i) (makes w) t) i ≡ after-step i w (account c t i)
   own-step =
       let r : ℕ = remote i (w .access) in
       let h : ℕ = begun (c .at i) (t .here i) + r in
@@ -49,7 +51,7 @@ module _ {S : Type 0} (s : Settings) (c : Course) (t : Tally) (i : ℕ) (w : Ste
 module _ (m : Machine) (s : Settings) where
   -- a turn of i leaves the account of j, or makes a step of i's, who is j
   pub by-account : (P : Account → Type 0) (r : Run (m .State)) (i j : ℕ) → P (account (r .course) (r .tally) j)
-      → (i ≡ j → P (stepped j (m .step s (r .memory) (r .course .at j) j) (account (r .course) (r .tally) j)))
+      → (i ≡ j → P (after-step j (m .step s (r .memory) (r .course .at j) j) (account (r .course) (r .tally) j)))
       → P (account (after m s r i .course) (after m s r i .tally) j)
   unfolding taking
   by-account P r i j a b =
@@ -65,7 +67,7 @@ module _ (m : Machine) (s : Settings) where
 
   -- what holds of every account at first, and is kept by every step of its processor, holds of it after every turn
   pub by-accounts : (P : ℕ → Account → Type 0) → ((i : ℕ) → P i (account outset blank i))
-      → ((x : m .State) (i : ℕ) (a : Account) → P i a → P i (stepped i (m .step s x (a .at) i) a))
+      → ((x : m .State) (i : ℕ) (a : Account) → P i a → P i (after-step i (m .step s x (a .at) i) a))
       → (t : List ℕ) (i : ℕ) → P i (account (whole m s t .course) (whole m s t .tally) i)
   by-accounts P h f =
       by-whole m s (λ r. (j : ℕ) → P j (account (r .course) (r .tally) j))
@@ -84,10 +86,15 @@ pub record Cost (m : Machine) (s : Settings) : Type 1 where
       Cap i (place (w .then) k) h′ × (h′ ≤ top i))
 
 module _ (m : Machine) (s : Settings) (k : Cost m s) where
-  -- after every turn the cap holds, and no passage has made more
-  pub capped : (t : List ℕ) (i : ℕ) → k .Cap i (whole m s t .course .at i) (whole m s t .tally .here i) × (whole m s t .tally .most i ≤ k .top i)
-  capped = by-accounts m s (λ i a. k .Cap i (a .at) (a .here) × (a .most ≤ k .top i)) (λ i. (k .start i, omega arith))
-      (λ x i a c. let w = k .step x i (a .at) (a .here) (c .0) in (w .0, omega (arith, w .1, c .1)))
+  abbrev pub Capped : ℕ → Account → Type 0
+  Capped i a = k .Cap i (a .at) (a .here) × (a .most ≤ k .top i)
 
+  pub capped-start : (i : ℕ) → Capped i (account outset blank i)
+  capped-start i = (k .start i, omega arith)
+
+  pub capped-step : (x : m .State) (i : ℕ) (a : Account) → Capped i a → Capped i (after-step i (m .step s x (a .at) i) a)
+  capped-step x i a c = let w = k .step x i (a .at) (a .here) (c .0) in (w .0, omega (arith, w .1, c .1))
+
+  -- no passage of any run makes more
   pub at-most : (t : List ℕ) (i : ℕ) → whole m s t .tally .most i ≤ k .top i
-  at-most t i = capped t i .1
+  at-most t i = by-accounts m s Capped capped-start capped-step t i .1

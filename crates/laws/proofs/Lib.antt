@@ -9,6 +9,7 @@ pub mod TicketTurns
 pub mod Lines
 pub mod Costs
 pub mod McsCost
+pub mod Prices
 pub mod Doubling
 pub mod Refusals
 pub mod Runs
