@@ -10,6 +10,7 @@ pub mod Lines
 pub mod Costs
 pub mod McsCost
 pub mod Prices
+pub mod TreeCost
 pub mod Doubling
 pub mod Refusals
 pub mod Runs

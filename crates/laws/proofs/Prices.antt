@@ -68,10 +68,11 @@ module _ (m : Machine) (s : Settings) (p : Price m s) where
   Kept i a = Capped m s (p .cost) i a × Paid (top i) a
 
   kept-step : (x : m .State) (i : ℕ) (a : Account) → Kept i a → Kept i (after-step i (m .step s x (a .at) i) a)
-  kept-step x i a ((c, l), q) =
-      (capped-step m s (p .cost) x i a (c, l),
-      paid-step (top i) a q l (remote i (m .step s x (a .at) i .access)) (p .cost .step x i (a .at) (a .here) c .1)
-      (m .step s x (a .at) i .then) (p .pays x i (a .at) (a .here) c))
+  kept-step x i a ((c, l), q) = (
+    capped-step m s (p .cost) x i a (c, l),
+    paid-step (top i) a q l (remote i (m .step s x (a .at) i .access)) (p .cost .step x i (a .at) (a .here) c .1)
+        (m .step s x (a .at) i .then) (p .pays x i (a .at) (a .here) c),
+  )
 
   kept : (t : List ℕ) (i : ℕ) → Kept i (account (whole m s t .course) (whole m s t .tally) i)
   kept = by-accounts m s Kept (λ i. (capped-start m s (p .cost) i, record { all = omega arith; most = λ z. absurd (omega arith) })) kept-step
