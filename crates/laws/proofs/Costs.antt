@@ -5,10 +5,9 @@ use mathlib.Core.List.{List}
 use Prim.Native.Nat.{ℕ, _+_, _≤_, max}
 use native.Mathlib.Decide.{ℕ-discrete}
 use native.Mathlib.Omega.{arith}
-use Rattle.rules.specs.Memory.{upd}
 use Rattle.rules.specs.Settings.{Settings}
 use Rattle.rules.specs.Step.{remote, Next, Step, Machine}
-use Rattle.rules.specs.Course.{Course, outset, makes, goes, ends, course}
+use Rattle.rules.specs.Course.{Course, outset, makes, memory, course}
 use Rattle.rules.specs.Tally.{Tally, blank, begun, tally}
 use Rattle.rules.specs.Play.{Run, taking, after, whole}
 use Rattle.rules.proofs.Store.{upd-same, upd-other}
@@ -40,61 +39,75 @@ after-step i w = stepped (w .then) (remote i (w .access))
 module _ {S : Type 0} (s : Settings) (c : Course) (t : Tally) (i : ℕ) (w : Step S) where
   own-step : account (course s i (makes w) c) (tally i (c .at i) (makes w) t) i ≡ after-step i w (account c t i)
   own-step =
-      let r : ℕ = remote i (w .access) in
-      let h : ℕ = begun (c .at i) (t .here i) + r in
-      rw (goes-same (w .then) i (c .at), ends-same (w .then) i (c .done), upd-same (t .here) i h, upd-same (t .far) i (t .far i + r), upd-same (t .most) i (max (t .most i) h)) refl
+      rw (goes-same (w .then) i (c .at), ends-same (w .then) i (c .done))
+      (rw (upd-same (t .here) i _, upd-same (t .far) i _, upd-same (t .most) i _) refl)
 
   other-step : (j : ℕ) → j ≢ i → account (course s i (makes w) c) (tally i (c .at i) (makes w) t) j ≡ account c t j
   other-step j n =
-      rw (goes-other (w .then) i (c .at) j n, ends-other (w .then) i (c .done) j n, upd-other (t .here) i _ j n, upd-other (t .far) i _ j n, upd-other (t .most) i _ j n) refl
+      rw (goes-other (w .then) i (c .at) j n, ends-other (w .then) i (c .done) j n)
+      (rw (upd-other (t .here) i _ j n, upd-other (t .far) i _ j n, upd-other (t .most) i _ j n) refl)
 
 module _ (m : Machine) (s : Settings) where
-  -- a turn of i leaves the account of j, or makes a step of i's, who is j
-  pub by-account : (P : Account → Type 0) (r : Run (m .State)) (i j : ℕ) → P (account (r .course) (r .tally) j)
-      → (i ≡ j → P (after-step j (m .step s (r .memory) (r .course .at j) j) (account (r .course) (r .tally) j)))
-      → P (account (after m s r i .course) (after m s r i .tally) j)
+  abbrev Of : (m .State → Account → Type 0) → ℕ → Run (m .State) → Type 0
+  Of P j r = P (r .memory) (account (r .course) (r .tally) j)
+
+  -- a turn of i makes no step; a step of j's own; or one of another's, which leaves the account of j
+  pub by-account : (P : m .State → Account → Type 0) (r : Run (m .State)) (i j : ℕ) → Of P j r
+      → (let w : Step (m .State) = m .step s (r .memory) (r .course .at j) j in
+      P (w .memory) (after-step j w (account (r .course) (r .tally) j)))
+      → (j ≢ i → P (m .step s (r .memory) (r .course .at i) i .memory) (account (r .course) (r .tally) j))
+      → Of P j (after m s r i)
   unfolding taking
-  by-account P r i j a b =
-      by-after m s r i (λ q. P (account (q .course) (q .tally) j)) a a (λ l. by-turn m s (r .memory) (r .course) i
-      (λ t. P (account (course s i t (r .course)) (tally i (r .course .at i) t (r .tally)) j)) (λ p. a) (λ e. a) (λ z. go (ℕ-discrete j i)))
+  by-account P r i j a b o =
+      by-after m s r i (Of P j) a a (λ l. by-turn m s (r .memory) (r .course) i
+      (λ t. P (memory t (r .memory)) (account (course s i t (r .course)) (tally i (r .course .at i) t (r .tally)) j))
+      (λ p. a) (λ e. a) (λ z. go (ℕ-discrete j i)))
     where
       w : Step (m .State)
       w = m .step s (r .memory) (r .course .at i) i
 
-      go : Dec (j ≡ i) → P (account (course s i (makes w) (r .course)) (tally i (r .course .at i) (makes w) (r .tally)) j)
-      go (yes e) = rw (sym e, own-step s (r .course) (r .tally) j (m .step s (r .memory) (r .course .at j) j)) (b (sym e))
-      go (no n) = rw (other-step s (r .course) (r .tally) i w j n) a
+      go : Dec (j ≡ i) → P (w .memory) (account (course s i (makes w) (r .course)) (tally i (r .course .at i) (makes w) (r .tally)) j)
+      go (yes e) = rw (sym e, own-step s (r .course) (r .tally) j (m .step s (r .memory) (r .course .at j) j)) b
+      go (no n) = rw (other-step s (r .course) (r .tally) i w j n) (o n)
 
-  -- what holds of every account at first, and is kept by every step of its processor, holds of it after every turn
-  pub by-accounts : (P : ℕ → Account → Type 0) → ((i : ℕ) → P i (account outset blank i))
-      → ((x : m .State) (i : ℕ) (a : Account) → P i a → P i (after-step i (m .step s x (a .at) i) a))
-      → (t : List ℕ) (i : ℕ) → P i (account (whole m s t .course) (whole m s t .tally) i)
-  by-accounts P h f =
-      by-whole m s (λ r. (j : ℕ) → P j (account (r .course) (r .tally) j))
-      (λ r i k j. by-account (P j) r i j (k j) (λ e. f (r .memory) j (account (r .course) (r .tally) j) (k j))) h
+  -- what holds of every account at first, and is kept by every step, holds of it after every turn
+  pub by-accounts : (P : m .State → ℕ → Account → Type 0) → ((i : ℕ) → P (m .start s) i (account outset blank i))
+      → ((x : m .State) (i : ℕ) (a : Account) → P x i a
+      → (let w : Step (m .State) = m .step s x (a .at) i in P (w .memory) i (after-step i w a)))
+      → ((x : m .State) (k i j : ℕ) (a : Account) → j ≢ i → P x j a → P (m .step s x k i .memory) j a)
+      → (t : List ℕ) (i : ℕ) → Of (λ x. P x i) i (whole m s t)
+  by-accounts P h f g =
+      by-whole m s (λ r. (j : ℕ) → Of (λ x. P x j) j r)
+      (λ r i c j. by-account (λ x. P x j) r i j (c j) (f (r .memory) j _ (c j)) (λ n. g (r .memory) (r .course .at i) i j _ n (c j))) h
 
 -- ---- a bound
 
--- Cap i k h: processor i, when at step k, may have made h references in the passage begun last; never more than top i
+-- Cap x i k h: with this memory processor i, when at step k, may have made h references in the passage begun last; never more than top i
 pub record Cost (m : Machine) (s : Settings) : Type 1 where
-  pub Cap : (i k h : ℕ) → Type 0
+  pub Cap : m .State → (i k h : ℕ) → Type 0
   pub top : ℕ → ℕ
-  pub start : (i : ℕ) → Cap i 1 0
-  pub step : (x : m .State) (i k h : ℕ) → Cap i k h
+  pub start : (i : ℕ) → Cap (m .start s) i 1 0
+  pub step : (x : m .State) (i k h : ℕ) → Cap x i k h
       → (let w : Step (m .State) = m .step s x k i in
       let h′ : ℕ = begun k h + remote i (w .access) in
-      Cap i (place (w .then) k) h′ × (h′ ≤ top i))
+      Cap (w .memory) i (place (w .then) k) h′ × (h′ ≤ top i))
+  -- the steps of the others leave it
+  pub others : (x : m .State) (l j i k h : ℕ) → i ≢ j → Cap x i k h → Cap (m .step s x l j .memory) i k h
 
 module _ (m : Machine) (s : Settings) (k : Cost m s) where
-  abbrev pub Capped : ℕ → Account → Type 0
-  Capped i a = k .Cap i (a .at) (a .here) × (a .most ≤ k .top i)
+  abbrev pub Capped : m .State → ℕ → Account → Type 0
+  Capped x i a = k .Cap x i (a .at) (a .here) × (a .most ≤ k .top i)
 
-  pub capped-start : (i : ℕ) → Capped i (account outset blank i)
+  pub capped-start : (i : ℕ) → Capped (m .start s) i (account outset blank i)
   capped-start i = (k .start i, omega arith)
 
-  pub capped-step : (x : m .State) (i : ℕ) (a : Account) → Capped i a → Capped i (after-step i (m .step s x (a .at) i) a)
+  pub capped-step : (x : m .State) (i : ℕ) (a : Account) → Capped x i a
+      → (let w : Step (m .State) = m .step s x (a .at) i in Capped (w .memory) i (after-step i w a))
   capped-step x i a c = let w = k .step x i (a .at) (a .here) (c .0) in (w .0, omega (arith, w .1, c .1))
+
+  pub capped-others : (x : m .State) (l j i : ℕ) (a : Account) → i ≢ j → Capped x i a → Capped (m .step s x l j .memory) i a
+  capped-others x l j i a n c = (k .others x l j i (a .at) (a .here) n (c .0), c .1)
 
   -- no passage of any run makes more
   pub at-most : (t : List ℕ) (i : ℕ) → whole m s t .tally .most i ≤ k .top i
-  at-most t i = by-accounts m s Capped capped-start capped-step t i .1
+  at-most t i = by-accounts m s Capped capped-start capped-step capped-others t i .1

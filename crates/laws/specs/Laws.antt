@@ -295,7 +295,7 @@ pub record Longest : Type 0 where
 -- the bounds are reached
 pub record Reached : Type 0 where
   pub four : whole mcs.machine threeBoards fourTurns .tally .most 2 ≡ mostReferences
-  -- everybody has finished its one passage
+  -- an episode of the tree barrier: all seven have done their one passage, for 2 * 7 - 2 remote references in all
   pub episode : (let r : Run tree.State = whole tree.machine sevenBoards sevenTurns in (sum (r .course .done) 7 ≡ 7) × (r .tally .total ≡ 12))
   pub longest : (bytes : List ℕ) × (length bytes ≡ longestFile) × (reading bytes (replicate mostTurns 0) .answer .number ≡ 0)
 
