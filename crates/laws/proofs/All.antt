@@ -8,6 +8,7 @@ use Rattle.laws.proofs.Totals.{total-counted, total-summed}
 use Rattle.laws.proofs.Courses.{courses}
 use Rattle.laws.proofs.Lines as lines
 use Rattle.laws.proofs.McsCost.{four, four-reached}
+use Rattle.laws.proofs.TreeCost.{tree-price, episode-reached}
 use Rattle.laws.proofs.Refusals as refusals
 use Rattle.laws.proofs.Runs.{runs}
 use Rattle.laws.proofs.Files as files
@@ -30,6 +31,7 @@ all-laws = record {
   distance = lines.distance;
   agree = lines.agree;
   four = four;
+  tree-price = tree-price;
   runs = runs;
   refusals = record {
     write = refusals.refusals-write;
@@ -41,6 +43,6 @@ all-laws = record {
   read-write = files.read-write;
   write-read = files.write-read;
   longest = files.longest;
-  reached = record { four = four-reached; longest = files.longest-reached };
+  reached = record { four = four-reached; episode = episode-reached; longest = files.longest-reached };
   doublings = doublings-hold;
 }

@@ -9,6 +9,8 @@ pub mod TicketTurns
 pub mod Lines
 pub mod Costs
 pub mod McsCost
+pub mod Prices
+pub mod TreeCost
 pub mod Doubling
 pub mod Refusals
 pub mod Runs

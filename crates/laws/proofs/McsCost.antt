@@ -5,7 +5,7 @@ use mathlib.Core.List.{List}
 use Prim.Native.Nat.{ℕ, zero, suc, _+_, _≤_}
 use native.Mathlib.Omega.{arith}
 use lib.Dec.{eqb}
-use Rattle.rules.specs.Memory.{upd}
+use Rattle.rules.specs.Memory.{upd, each}
 use Rattle.rules.specs.Settings.{Settings}
 use Rattle.rules.specs.Step.{read, write, writes, atomics, remote, Step}
 use Rattle.rules.specs.Course.{turn}
@@ -66,7 +66,13 @@ module _ (s : Settings) (x : State) (i h : ℕ) where
   costs k (c10 e l) = let r = remote≤ i (writes (x .succ i) 2) in rw e (c1 refl, omega arith)
 
 mcs-cost : (s : Settings) → Cost machine s
-mcs-cost s = record { Cap = Cap; top = mostReferences; start = c1 refl; step = λ x k i h c. costs s x i h k c }
+mcs-cost s = record {
+  Cap = λ x i. Cap;
+  top = each mostReferences;
+  start = λ i. c1 refl;
+  step = λ x i k h c. costs s x i h k c;
+  others = λ x l j i k h n c. c;
+}
 
 -- no passage, finished or not, makes more than four
 pub four : (s : Settings) (t : List ℕ) (i : ℕ) → whole machine s t .tally .most i ≤ mostReferences

@@ -1,10 +1,10 @@
 -- All that is proved of the rules, on one page. proofs/All has the proofs.
-use Prim.Native.Nat.{ℕ, zero, suc, _+_, _*_, _^_, _%_, _≤_, _<_, min}
+use Prim.Native.Nat.{ℕ, zero, suc, _+_, _-_, _*_, _^_, _%_, _≤_, _<_, min}
 use mathlib.Core.Path.{_≡_}
 use mathlib.Core.Logic.{_≢_, _⊎_}
 use mathlib.Core.Bool.{Bool, true, false}
 use mathlib.Core.List.{List, [], _∷_, _++_}
-use lib.Dec.{eqb}
+use lib.Dec.{eqb, ltb}
 use lib.ListN.{length, take, replicate}
 use Rattle.rules.specs.Memory.{pick}
 use Rattle.rules.specs.Bounds.{mostProcs, mostTicket, mostBudget, mostRounds, mostHold, mostTurns, mostDigits, longestFile}
@@ -15,6 +15,7 @@ use Rattle.rules.specs.Tally.{access}
 use Rattle.rules.specs.Play.{Run, first, next, after, play, whole}
 use Rattle.rules.specs.Ticket as ticket
 use Rattle.rules.specs.Mcs as mcs
+use Rattle.rules.specs.Tree as tree
 use Rattle.rules.specs.Dissem.{doublings}
 use Rattle.rules.specs.Machines.{lock, machines, numbered, machine}
 use Rattle.rules.specs.File.{text}
@@ -195,6 +196,19 @@ threeBoards = record { algo = 2; procs = 3; home = 0; ticket = 0; budget = 16384
 abbrev pub fourTurns : List ℕ
 fourTurns = 1 ∷ 1 ∷ 2 ∷ 2 ∷ 2 ∷ 2 ∷ 1 ∷ 1 ∷ 2 ∷ 2 ∷ 0 ∷ 0 ∷ 2 ∷ 0 ∷ 0 ∷ 2 ∷ 2 ∷ []
 
+-- what processor i pays for a passage of the tree barrier: it tells its parent, if it has one, and wakes its children below procs
+abbrev pub treePrice : (procs i : ℕ) → ℕ
+treePrice procs i = pick (eqb i 0) 0 1 + pick (ltb (2 * i + 1) procs) 1 0 + pick (ltb (2 * i + 2) procs) 1 0
+
+-- an episode of the tree barrier: 6 down to 0 arrive, 0 wakes 1 and 2, these wake the others
+abbrev pub sevenBoards : Settings
+sevenBoards =
+    record { algo = 5; procs = 7; home = 0; ticket = 0; budget = 16384; rounds = 1 ∷ 1 ∷ 1 ∷ 1 ∷ 1 ∷ 1 ∷ 1 ∷ []; hold = [] }
+
+abbrev pub sevenTurns : List ℕ
+sevenTurns =
+    6 ∷ 6 ∷ 5 ∷ 5 ∷ 4 ∷ 4 ∷ 3 ∷ 3 ∷ 2 ∷ 2 ∷ 1 ∷ 1 ∷ 1 ∷ 1 ∷ 0 ∷ 0 ∷ 0 ∷ 0 ∷ 0 ∷ 0 ∷ 0 ∷ 1 ∷ 1 ∷ 1 ∷ 2 ∷ 2 ∷ 2 ∷ 3 ∷ 4 ∷ 5 ∷ 6 ∷ []
+
 -- ---- the statements
 
 -- of any machine
@@ -281,7 +295,28 @@ pub record Longest : Type 0 where
 -- the bounds are reached
 pub record Reached : Type 0 where
   pub four : whole mcs.machine threeBoards fourTurns .tally .most 2 ≡ mostReferences
+  -- an episode of the tree barrier: all seven have done their one passage, for 2 * 7 - 2 remote references in all
+  pub episode : (let r : Run tree.State = whole tree.machine sevenBoards sevenTurns in (sum (r .course .done) 7 ≡ 7) × (r .tally .total ≡ 12))
   pub longest : (bytes : List ℕ) × (length bytes ≡ longestFile) × (reading bytes (replicate mostTurns 0) .answer .number ≡ 0)
+
+-- the tree barrier, with any number of processors. Processor i is in no passage where its next step is step 1
+pub record TreePrice : Type 0 where
+  -- the turn that finishes a passage leaves exactly so many remote references counted for it
+  pub finished : (s : Settings) (t : List ℕ) (i : ℕ)
+      → whole tree.machine s (t ++ i ∷ []) .course .done i ≡ suc (whole tree.machine s t .course .done i)
+      → whole tree.machine s (t ++ i ∷ []) .tally .here i ≡ treePrice (s .procs) i
+  -- no passage, finished or not, makes more; and once one is finished the most is exactly this
+  pub at-most : (s : Settings) (t : List ℕ) (i : ℕ) → whole tree.machine s t .tally .most i ≤ treePrice (s .procs) i
+  pub most : (s : Settings) (t : List ℕ) (i : ℕ) → 0 < whole tree.machine s t .course .done i
+      → whole tree.machine s t .tally .most i ≡ treePrice (s .procs) i
+  -- after every turn: the remote references of i are those of its finished passages, and of the one that it is in
+  pub references : (s : Settings) (t : List ℕ) (i : ℕ)
+      → (let r : Run tree.State = whole tree.machine s t in
+      r .tally .far i ≡ r .course .done i * treePrice (s .procs) i + pick (eqb (r .course .at i) 1) 0 (r .tally .here i))
+  -- an episode costs 2 P - 2: where everybody has finished n passages and is in no other, the total is n times that
+  pub episodes : (s : Settings) (t : List ℕ) (n : ℕ) → allBelow (s .procs) t ≡ true
+      → (let r : Run tree.State = whole tree.machine s t in
+      ((i : ℕ) → i < s .procs → (r .course .done i ≡ n) × (r .course .at i ≡ 1)) → r .tally .total ≡ n * (2 * s .procs - 2))
 
 -- R doublings of 1 reach P, and no fewer do
 pub record Doublings : Type 0 where
@@ -303,6 +338,7 @@ pub record Laws : Type 1 where
       → (k f g : ℕ) → ComesNext k f (whole m s t .events) → ComesNext k g (whole n w u .events) → f ≡ g
   -- in the queue lock no passage, finished or not, makes more than four remote references
   pub four : (s : Settings) (t : List ℕ) (i : ℕ) → whole mcs.machine s t .tally .most i ≤ mostReferences
+  pub tree-price : TreePrice
   pub runs : Runs
   pub refusals : Refusals
   -- what read accepted, write gives back byte for byte where it has room
