@@ -1,6 +1,7 @@
 // A run over plain numbers: refusals, the machine that the settings name, its numbers. The table is filled afterwards.
 use settings::ACCEPTED;
 use settings::CENTRAL;
+use settings::DISSEM;
 use settings::MCS;
 use settings::Settings;
 use settings::TICKET;
@@ -71,7 +72,8 @@ pub(crate) fn core(s: Settings, schedule: &[u16], events: &mut [u16], room: usiz
         TICKET => ticket::play(s, schedule, events),
         MCS => mcs::play(s, schedule, events),
         CENTRAL => central::play(s, schedule, events),
-        _ => dissem::play(s, schedule, events),
+        DISSEM => dissem::play(s, schedule, events),
+        _ => tree::play(s, schedule, events),
     };
     accepted(s.procs, p)
 }

@@ -15,6 +15,10 @@ pub bits< : (word v : ℕ) → bits word v < 2
 unfolding bits
 bits< word v = omega arith
 
+-- the same of a bit that was read
+pub bit< : (b word v : ℕ) → b ≡ bits word v → b < 2
+bit< b word v e = rw e (bits< word v)
+
 pub bits-zero : bits 0 ≡ each 0
 unfolding bits
 bits-zero = fun-ext (λ v. rw (zero-div (2 ^ v)))

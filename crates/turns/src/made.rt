@@ -100,7 +100,7 @@ pub fn last(owner: u16, kind: u8) -> Made
     }
 }
 
-// The only turn of a passage of processor w, without access: it arrives and leaves.
+// The only turn of a passage of processor w, which touches nothing of another's: it arrives and leaves.
 pub fn alone(w: u16) -> Made
     ensures { λ r. ⌜ r ≡ record { owner = w; first = 4; second = 5; began = true; done = true; spin = false; idle = false } ⌝ }
 {
