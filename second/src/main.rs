@@ -12,6 +12,7 @@ mod reader;
 mod routine;
 mod settings;
 mod ticket;
+mod tree;
 
 use std::io::{self, Read, Write};
 

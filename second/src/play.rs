@@ -9,6 +9,7 @@ use crate::notes::{Event, Notes};
 use crate::routine::Routine;
 use crate::settings::{Accepted, Algorithm, Settings};
 use crate::ticket::Ticket;
+use crate::tree::Tree;
 
 #[derive(Clone, Copy, Debug, PartialEq, Eq)]
 pub enum Stop {
@@ -41,6 +42,7 @@ pub fn play(file: &Accepted) -> Outcome {
         Algorithm::Mcs => run::<Mcs>(settings, schedule),
         Algorithm::Central => run::<Central>(settings, schedule),
         Algorithm::Dissem => run::<Dissem>(settings, schedule),
+        Algorithm::Tree => run::<Tree>(settings, schedule),
     }
 }
 

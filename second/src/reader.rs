@@ -129,6 +129,7 @@ impl Cursor<'_> {
             b"mcs" => Some(Algorithm::Mcs),
             b"central" => Some(Algorithm::Central),
             b"dissem" => Some(Algorithm::Dissem),
+            b"tree" => Some(Algorithm::Tree),
             _ => None,
         };
         self.byte(b'\n')?;

@@ -7,6 +7,7 @@ pub enum Algorithm {
     Mcs,
     Central,
     Dissem,
+    Tree,
 }
 
 /// One processor's line: how many passages it does, how many hold turns

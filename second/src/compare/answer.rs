@@ -95,7 +95,8 @@ impl Answer {
                 run.check_counts()?;
                 run.check_events()?;
                 run.check_order()?;
-                draft.map_or(Ok(()), |draft| run.check_draft(draft))
+                draft.map_or(Ok(()), |draft| run.check_draft(draft))?;
+                draft.map_or(Ok(()), |draft| run.check_tree(draft))
             }
         }
     }
@@ -178,5 +179,16 @@ impl Run {
             demand(record[3] + record[4] <= taken, "spins and idle turns are turns")?;
         }
         Ok(())
+    }
+
+    /// With nobody under way each episode of the tree barrier has made 2P - 2
+    /// remote references.
+    fn check_tree(&self, draft: &Draft) -> Result<(), Fault> {
+        let done: usize = self.records.iter().map(|record| record[0]).sum();
+        if draft.algo != "tree" || self.events.len() != 2 * done {
+            return Ok(());
+        }
+        let episodes = done / draft.procs;
+        demand(self.remote == episodes * (2 * draft.procs - 2), "a tree episode makes 2P - 2")
     }
 }

@@ -60,7 +60,7 @@ fn bad_name(dice: &mut Dice, mut draft: Draft) -> Vec<u8> {
 }
 
 fn name(dice: &mut Dice) -> String {
-    const NEAR: [&str; 10] = [
+    const NEAR: [&str; 13] = [
         "m",
         "mc",
         "mcz",
@@ -71,6 +71,9 @@ fn name(dice: &mut Dice) -> String {
         "centrals",
         "dissemin",
         "disseminate",
+        "tre",
+        "trees",
+        "treee",
     ];
     if dice.chance(50) {
         return dice.pick(&NEAR).to_string();

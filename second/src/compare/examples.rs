@@ -49,6 +49,7 @@ pub fn made() -> Vec<Example> {
         longest_file(),
     ];
     examples.extend([1, 2, 3, 4, 5, 64].into_iter().zip([0, 1, 2, 2, 3, 6]).map(doublings));
+    examples.extend([1, 2, 3, 4, 5, 6, 21, 22, 63, 64].map(up_and_down));
     examples
 }
 
@@ -106,4 +107,34 @@ fn doublings((procs, r): (usize, usize)) -> Example {
         r * procs
     );
     example(&format!("dissem-r-for-{procs}"), file, output)
+}
+
+/// The tree barrier without a spin: the processors come from the last to the
+/// first, each with its whole arrival, then from the first to the last, each
+/// with its whole wake-up. An episode has 2P - 2 remote references.
+fn up_and_down(procs: usize) -> Example {
+    let below = |first: usize, count: usize| (first..first + count).filter(|&i| i < procs).count();
+    let (arriving, woken) = (|i: usize| below(4 * i + 1, 4), |i: usize| below(2 * i + 1, 2));
+    // One turn tells the parent, one reads the sense; 0 has neither.
+    let parent = |i: usize| usize::from(i > 0);
+    let up = (0..procs).rev().flat_map(|i| vec![i; arriving(i) + 1 + parent(i)]);
+    let down = (0..procs).flat_map(|i| vec![i; parent(i) + woken(i)]);
+    let turns: Vec<String> = up.chain(down).map(|i| i.to_string()).collect();
+    let plans: String = (0..procs).map(|i| format!("p{i}=1,0\n")).collect();
+    let record = |i: usize| format!("p{i}=1,{0},{0},0,0\n", parent(i) + woken(i));
+    let records: String = (0..procs).map(record).collect();
+    let arrive: Vec<String> = (0..procs).rev().map(|i| format!("a{i}")).collect();
+    let leave: Vec<String> = (0..procs).map(|i| format!("l{i}")).collect();
+    let file = format!(
+        "algo=tree\nprocs={procs}\nhome=0\nticket=0\nbudget=16384\n{plans}turns={}\n",
+        turns.join(",")
+    );
+    let output = format!(
+        "turns={}\nstop=0\nremote={}\n{records}events={},{}\n",
+        turns.len(),
+        2 * procs - 2,
+        arrive.join(","),
+        leave.join(",")
+    );
+    example(&format!("tree-up-and-down-{procs}"), file, output)
 }

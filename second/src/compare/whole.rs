@@ -4,7 +4,7 @@ use crate::dice::Dice;
 use crate::draft::Draft;
 
 pub const MOST_TURNS: usize = 16384;
-const NAMES: [&str; 4] = ["ticket", "mcs", "central", "dissem"];
+const NAMES: [&str; 5] = ["ticket", "mcs", "central", "dissem", "tree"];
 
 /// A whole file of any length.
 pub fn any(dice: &mut Dice) -> Draft {
@@ -88,6 +88,7 @@ fn long_enough(dice: &mut Dice, draft: &Draft) -> usize {
     let one_each = match draft.algo.as_str() {
         "ticket" | "mcs" => procs * (4 * procs + holds + 6),
         "central" => procs * (4 + longest_hold),
+        "tree" => procs * (6 * levels(procs) + 3 + longest_hold),
         _ => procs * (2 * levels(procs) + 2 + longest_hold),
     };
     let passages = most_rounds.min(dice.between(1, 9));
@@ -177,9 +178,11 @@ fn budget(dice: &mut Dice, draft: &Draft) -> usize {
 /// About the remote references of a complete run.
 fn likely_need(draft: &Draft) -> usize {
     let passages: usize = draft.plans.iter().map(|plan| plan.0).sum();
+    let episodes = draft.plans.iter().map(|plan| plan.0).min().unwrap_or(0);
     let need = match draft.algo.as_str() {
         "dissem" => passages * levels(draft.procs),
         "mcs" => 4 * passages,
+        "tree" => episodes * (2 * draft.procs - 2),
         _ => draft.turns.len() - draft.turns.len() / draft.procs,
     };
     need.min(draft.turns.len())
