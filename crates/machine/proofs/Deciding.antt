@@ -4,7 +4,6 @@ use mathlib.Core.Logic.{_≢_}
 use mathlib.Core.Bool.{Bool, true, false, _&&_}
 use mathlib.Core.List.{List, _∷_}
 use Prim.Native.Nat.{ℕ, zero, suc, _+_, _*_, _≤_, _<_}
-use native.Mathlib.Decide.{ℕ-discrete}
 use native.Mathlib.Nat.{add-zero}
 use native.Mathlib.Omega.{arith}
 use borrow.Author.Tests.{ne-eqb, le-leb, lt-leb}
@@ -14,11 +13,10 @@ use Rattle.rules.specs.Memory.{pick}
 use Rattle.rules.specs.Settings.{Settings}
 use Rattle.rules.specs.Tally.{Tally}
 use Rattle.rules.specs.Play.{Run, whole}
-use Rattle.rules.specs.Machines.{known, machine}
+use Rattle.rules.specs.Machines.{machines, machine}
 use Rattle.rules.specs.Calls as rules
 use Rattle.rules.specs.Calls.{over, refusal, acceptedRun, records, running}
-use Rattle.rules.proofs.Store.{false-true}
-use Rattle.rules.proofs.Known.{unknown-number}
+use Rattle.rules.proofs.Known.{known-range}
 use Rattle.rules.proofs.Accepted.{accepted, accepts, refusal-room}
 use Rattle.rules.proofs.Views.{column}
 use Rattle.machine.specs.declared.core.Outcome.{Outcome}
@@ -105,10 +103,6 @@ pub core-by : {s : Settings} {turns before after after′ : List ℕ} {p p′ : 
     → PlayedIs (machine (s .algo)) s turns before after p × (length after ≡ length before)
 core-by {s} {turns} {before} {after′ = after′} {p′ = p′} i u l e f = rw (e, f) (subst (λ (n : ℕ). PlayedIs (machine n) s turns before after′ p′) (sym i) u, l)
 
--- the fourth machine is the only one left
-pub core-fourth : (s : Settings) (turns : List ℕ) → 0 ≡ refusal s turns true → s .algo ≢ 1 → s .algo ≢ 2 → s .algo ≢ 3 → s .algo ≡ 4
-core-fourth s turns e a b c = go (ℕ-discrete (s .algo) 4)
-  where
-    go : Dec (s .algo ≡ 4) → s .algo ≡ 4
-    go (yes d) = d
-    go (no d) = absurd (false-true (sym (unknown-number (s .algo) a b c d) ∙ accepted s turns true (sym e) .0 .algo))
+-- the last machine is the only one left
+pub core-last : (s : Settings) (turns : List ℕ) → 0 ≡ refusal s turns true → s .algo ≢ 1 → s .algo ≢ 2 → s .algo ≢ 3 → s .algo ≢ 4 → s .algo ≡ machines
+core-last s turns e a b c d = omega (arith, known-range (s .algo) (accepted s turns true (sym e) .0 .algo))

@@ -38,8 +38,8 @@ pub(crate) struct Nodes {
 }
 
 pub(crate) struct Tree {
-    course: Course,
     nodes: Nodes,
+    course: Course,
     pub(crate) made: Made,
 }
 
@@ -48,10 +48,10 @@ fn reading(w: u16, slot: u16, procs: u16) -> u8
     requires { ⌜ (w < 64) × (slot < 5) ⌝ }
     ensures { λ r. ⌜ r ≡ pick (ltb (child w slot) procs) (2 + slot) 6 ⌝ }
 {
-    if 4 * w + slot + 1 < procs {
-        return FLAGS + slot as u8;
+    if procs <= 4 * w + slot + 1 {
+        return SETS;
     }
-    SETS
+    FLAGS + slot as u8
 }
 
 // What is done at this step: at step 1 the first flag is read, if there is one.
@@ -76,10 +76,10 @@ fn waking(c: u16, step: u8, procs: u16) -> u8
 fn after_sets(w: u16, procs: u16) -> u8
     ensures { λ r. ⌜ r ≡ pick (eqb w 0) (pick (ltb 1 procs) 9 0) 7 ⌝ }
 {
-    if w == 0 {
-        return waking(1, WAKES_LEFT, procs);
+    if w != 0 {
+        return TELLS;
     }
-    TELLS
+    waking(1, WAKES_LEFT, procs)
 }
 
 // An access after which the passage goes on. first: it is the arrival.
@@ -157,14 +157,14 @@ fn ends(course: Course, nodes: Nodes, w: u16, next: u8, owner: u16, first: bool,
     let i = w as usize;
     if next == OVER {
         return Tree {
-            course: course.leaves(i, hold),
             nodes: nodes.toggles(i),
+            course: course.leaves(i, hold),
             made: leaving(owner, first),
         };
     }
     Tree {
-        course: course.goes(i, next),
         nodes,
+        course: course.goes(i, next),
         made: going(owner, first, false),
     }
 }
@@ -176,8 +176,8 @@ impl Tree {
         // Every own sense starts true, every other bit at 0.
         let nodes = Nodes { words: [2; 64] };
         Tree {
-            course: Course::start(),
             nodes,
+            course: Course::start(),
             made: made::none(0, false),
         }
     }
@@ -194,15 +194,15 @@ impl Tree {
         let step = match due {
             Due::Hold => {
                 return Tree {
-                    course: course.held(i),
                     nodes,
+                    course: course.held(i),
                     made: made::none(w, false),
                 };
             }
             Due::Idle => {
                 return Tree {
-                    course,
                     nodes,
+                    course,
                     made: made::none(w, true),
                 };
             }
@@ -220,16 +220,16 @@ impl Tree {
             TELLS => {
                 let parent = (w - 1) / 4;
                 return Tree {
-                    course: course.goes(i, WAITS),
                     nodes: nodes.clears(parent as usize, ((w - 1) % 4) as u8),
+                    course: course.goes(i, WAITS),
                     made: made::later(parent, 0, 0),
                 };
             }
             WAITS => {
                 if bit(word, WAKE) != bit(word, SENSE) {
                     return Tree {
-                        course,
                         nodes,
+                        course,
                         made: made::spin(w),
                     };
                 }
@@ -246,8 +246,8 @@ impl Tree {
             _ => {
                 if bit(word, k) == 0 {
                     return Tree {
-                        course: course.goes(i, k),
                         nodes,
+                        course: course.goes(i, k),
                         made: going(w, first, true),
                     };
                 }

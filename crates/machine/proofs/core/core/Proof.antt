@@ -10,7 +10,7 @@ use Rattle.rules.specs.Calls.{refusal}
 use Rattle.rules.proofs.Accepted.{accepted}
 use Rattle.settings.specs.View.{settingsOf}
 use Rattle.turns.specs.PlayView.{Ready, PlayedIs}
-use Rattle.machine.proofs.Deciding.{core-refused, core-few-records, core-few-events, core-ready, core-by, core-played, core-fourth}
+use Rattle.machine.proofs.Deciding.{core-refused, core-few-records, core-few-events, core-ready, core-by, core-played, core-last}
 use Rattle.machine.proofs.core.core.Statement.{statement}
 use Rattle.machine.proofs.core.core.Tie as tie
 
@@ -53,7 +53,8 @@ played m =
     ⊎-elim (λ w. core-by (w .0 .keys1) (w .2 .ensures) (w .2 .kept .1 .1 .0) (w .5) (w .6))
     (⊎-elim (λ w. core-by (w .0 .keys2) (w .2 .ensures) (w .2 .kept .1 .1 .0) (w .5) (w .6))
     (⊎-elim (λ w. core-by (w .0 .keys3) (w .2 .ensures) (w .2 .kept .1 .1 .0) (w .5) (w .6))
-    (λ w. core-by (core-fourth _ _ (zero (m .before .before .before .before)) (w .0 .rest .0 .0 .1) (w .0 .rest .0 .1) (w .0 .rest .1)) (w .2 .ensures) (w .2 .kept .1 .1 .0) (w .5) (w .6))))
+    (⊎-elim (λ w. core-by (w .0 .keys4) (w .2 .ensures) (w .2 .kept .1 .1 .0) (w .5) (w .6))
+    (λ w. core-by (core-last _ _ (zero (m .before .before .before .before)) (w .0 .rest .0 .0 .0 .1) (w .0 .rest .0 .0 .1) (w .0 .rest .0 .1) (w .0 .rest .1)) (w .2 .ensures) (w .2 .kept .1 .1 .0) (w .5) (w .6)))))
     (m .match .came)
 
 returns-4 : tie.Need-returns-4
@@ -69,5 +70,5 @@ core-spec =
     (λ c. search needs) (λ c κs. search needs) returns-2
     mul-if3
     (λ c κs. search needs) returns-3
-    (λ c κs. ready (c .before .before)) (λ c κs. ready (c .before .before)) (λ c κs. ready (c .before .before)) (λ c κs. ready (c .before .before))
+    (λ c κs. ready (c .before .before)) (λ c κs. ready (c .before .before)) (λ c κs. ready (c .before .before)) (λ c κs. ready (c .before .before)) (λ c κs. ready (c .before .before))
     (λ c κs. search needs) (λ c. played (c .before) .1) returns-4)

@@ -7,16 +7,16 @@ use Rattle.tree.proofs.barrier.after_sets.Tie as tie
 
 returns : tie.Need-returns
 returns c =
-    let r : tie.After-waking = search needs in
     let k : tie.Then1 = search needs in
-    rw (eq-eqb _ _ (k .if1 .taken)) (r .waking .ensures)
+    rw (ne-eqb _ _ (k .if1 .taken)) refl
 
 returns-2 : tie.Need-returns-2
 returns-2 c =
     let k : tie.Else1 = search needs in
-    rw (ne-eqb _ _ (k .if1 .left)) refl
+    let r : tie.After-waking = search needs in
+    rw (eq-eqb _ _ (k .if1 .left)) (r .waking .ensures)
 
 pub after-sets-spec : {M : Type 1} → statement M
 after-sets-spec =
     tie.close
-    (tie.spec (λ c κs. search needs) returns returns-2)
+    (tie.spec returns (λ c κs. search needs) returns-2)

@@ -2,7 +2,6 @@
 use borrow.Author.Needs.{needs}
 use borrow.Author.Tests.{lt-ltb, le-ltb}
 use mathlib.Core.Path.{refl}
-use native.Mathlib.Omega.{arith}
 use Rattle.tree.proofs.barrier.waking.Statement.{statement}
 use Rattle.tree.proofs.barrier.waking.Tie as tie
 

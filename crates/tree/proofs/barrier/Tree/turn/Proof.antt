@@ -204,7 +204,7 @@ turn-spec =
     (λ c. search needs) (λ c κs. search needs) returns-2
     (λ c. search needs) (λ c. search needs) (λ c. search needs) (λ c κs. search needs)
     (λ c κs. search needs) (λ c κs. search needs) ends-requires returns-3
-    sub-parent (λ c κs. search needs) (λ c. search needs) sub-clears (λ c. search needs) (λ c κs. search needs) (λ c κs. search needs) returns-4
+    sub-parent (λ c. search needs) sub-clears (λ c. search needs) (λ c κs. search needs) (λ c κs. search needs) (λ c κs. search needs) returns-4
     (λ c κs. search needs) (λ c κs. search needs) (λ c κs. search needs) returns-5
     (λ c. search needs) (λ c. search needs) (λ c κs. search needs) ends-requires-2 returns-6
     (λ c. search needs) (λ c. search needs) (λ c. search needs) wakes-requires (λ c. search needs) (λ c κs. search needs) ends-requires-3 returns-7
