@@ -6,7 +6,6 @@ use turns::bit;
 use turns::made;
 use turns::with_bit;
 ghost use mathlib.Core.Path.{_≡_};
-ghost use mathlib.Core.Bool.{false};
 ghost use Prim.Native.Nat.{ℕ, _<_, _≤_, _+_, _-_, _*_, _/_, _%_, _^_};
 ghost use lib.Dec.{eqb};
 ghost use Rattle.rules.specs.Memory.{pick, upd};
@@ -59,16 +58,6 @@ fn partner(w: u16, k: u8, procs: u16) -> u16
     ensures { λ r. ⌜ (r ≡ (w + 2 ^ k) % procs) × (r < procs) ⌝ }
 {
     (w + (1u16 << k)) % procs
-}
-
-// The access to a partner's flag: at step 1 it is the arrival.
-fn telling(j: u16, step: u8) -> Made
-    ensures { λ r. ⌜ r ≡ record { owner = j; first = pick (eqb step 1) 4 0; second = 0; began = eqb step 1; done = false; spin = false; idle = false } ⌝ }
-{
-    if step == 1 {
-        return made::first(j, made::ARRIVE);
-    }
-    made::later(j, 0, 0)
 }
 
 impl Flags {
@@ -184,7 +173,7 @@ impl Dissem {
         Dissem {
             flags: flags.tells(i, j as usize),
             course: course.goes(i, 2),
-            made: telling(j, step),
+            made: made::going(j, step == 1, false),
         }
     }
 }

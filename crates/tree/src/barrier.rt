@@ -11,7 +11,7 @@ ghost use lib.Dec.{eqb, ltb};
 ghost use Rattle.rules.specs.Memory.{pick, upd, each};
 ghost use Rattle.rules.specs.Tree.{machine, child};
 ghost use Rattle.turns.specs.View.{courseOf, toldOf, Starts, Turns};
-ghost use Rattle.tree.specs.TreeView.{nodesOf, stateOf, courseIn, onward, leaving, toggled, Ends, Sound};
+ghost use Rattle.tree.specs.TreeView.{nodesOf, stateOf, courseIn, leaving, toggled, Ends, Sound};
 
 // The steps after the flags are read, as in the rules. OVER is none: the passage is done.
 const OVER: u8 = 0;
@@ -82,21 +82,6 @@ fn after_sets(w: u16, procs: u16) -> u8
     waking(1, WAKES_LEFT, procs)
 }
 
-// An access after which the passage goes on. first: it is the arrival.
-fn going(owner: u16, first: bool, spin: bool) -> Made
-    ensures { λ r. ⌜ r ≡ onward owner first spin ⌝ }
-{
-    Made {
-        owner,
-        first: if first { made::ARRIVE } else { 0 },
-        second: 0,
-        began: first,
-        done: false,
-        spin,
-        idle: false,
-    }
-}
-
 // The last access of a passage, and the first too where there is one processor.
 fn leaving(owner: u16, first: bool) -> Made
     ensures { λ r. ⌜ r ≡ leaving owner first ⌝ }
@@ -165,7 +150,7 @@ fn ends(course: Course, nodes: Nodes, w: u16, next: u8, owner: u16, first: bool,
     Tree {
         nodes,
         course: course.goes(i, next),
-        made: going(owner, first, false),
+        made: made::going(owner, first, false),
     }
 }
 
@@ -248,7 +233,7 @@ impl Tree {
                     return Tree {
                         nodes,
                         course: course.goes(i, k),
-                        made: going(w, first, true),
+                        made: made::going(w, first, true),
                     };
                 }
                 return ends(course, nodes, w, reading(w, k as u16 - 1, procs), w, first, hold);

@@ -1,8 +1,9 @@
--- What a machine's run, the counting of a turn, and the kind of a processor's next turn are to be: the promises leave no choice.
-use mathlib.Core.Path.{_≡_, refl, sym, ap, ap₂, _∙_}
+-- What a machine's run, the counting of a turn, the kind of a processor's next turn, and a word with a bit changed are to be: the promises leave no choice.
+use mathlib.Core.Path.{_≡_, refl, sym, ap, ap₂, _∙_, fun-ext}
 use mathlib.Core.Bool.{true, false, true≢false, _&&_}
 use mathlib.Core.List.{List, [], _∷_}
-use Prim.Native.Nat.{ℕ, zero, suc, _+_, _*_, _/_, _%_, _<_}
+use Prim.Native.Nat.{ℕ, zero, suc, _+_, _*_, _/_, _%_, _^_, _≤_, _<_}
+use native.Mathlib.Nat.{pow-succ', div-div-eq-div-mul}
 use native.Mathlib.Omega.{arith}
 use borrow.Author.Tests.{eq-eqb}
 use lib.Dec.{eqb}
@@ -16,6 +17,7 @@ use Rattle.rules.proofs.Views.{column}
 use Rattle.turns.specs.declared.course.Due.{Due}
 use Rattle.turns.specs.declared.course.Due.the-variants.{Hold, Idle, Step}
 use Rattle.turns.specs.declared.played.Played.{Played}
+use Rattle.turns.specs.BitView.{bits}
 use Rattle.turns.specs.View.{Dues}
 use Rattle.turns.specs.CountView.{numbers, doneOf, tallyOf, Counted, Noted}
 use Rattle.turns.specs.PlayView.{PlayedIs}
@@ -83,3 +85,22 @@ one-due c i rounds Idle (Step k) x y = absurd (not-idle c i rounds k (x .1) (x .
 one-due c i rounds (Step k) Hold x y = absurd (omega (arith, x .0, y))
 one-due c i rounds (Step k) Idle x y = absurd (not-idle c i rounds k (y .1) (y .2) (x .1) (x .2))
 one-due c i rounds (Step k) (Step j) x y = ap Step (sym (x .1) ∙ y .1)
+
+-- ---- `with_bit`
+
+-- the bits of half a word are those of the word from 1 on
+half : (word v : ℕ) → bits (word / 2) v ≡ bits word (suc v)
+unfolding bits
+half word v = ap (λ (n : ℕ). n % 2) (div-div-eq-div-mul word 2 (2 ^ v) ∙ ap (λ (n : ℕ). word / n) (sym (pow-succ' 2 v)))
+
+-- words with the same bits are equal
+pub one-word : (a b : ℕ) → bits a ≡ bits b → a ≡ b
+unfolding bits
+one-word a b = go (a + b) a b (omega arith)
+  where
+    go : (n a b : ℕ) → a + b ≤ n → bits a ≡ bits b → a ≡ b
+    go zero a b h e = omega arith
+    go (suc n) a b h e =
+        let low : a / 1 % 2 ≡ b / 1 % 2 = ap (λ (f : ℕ → ℕ). f 0) e in
+        let high : a / 2 ≡ b / 2 = go n (a / 2) (b / 2) (omega arith) (fun-ext (λ v. half a v ∙ ap (λ (f : ℕ → ℕ). f (suc v)) e ∙ sym (half b v))) in
+        omega arith

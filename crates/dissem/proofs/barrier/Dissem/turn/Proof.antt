@@ -129,13 +129,13 @@ tells-requires c κs =
 
 returns-7 : tie.Need-returns-7
 returns-7 c =
-    let m : tie.After-telling = search needs in
+    let m : tie.After-going = search needs in
     let g : tie.After-goes2 = search needs in
     let l : tie.After-tells = search needs in
     let j : tie.After-partner = search needs in
     let a : tie.After-due2 = search needs in
     let z : tie.Start = search needs in
-    dissem-tells (here a) _ _ _ _ _ (l .tells .ensures) (g .goes2 .ensures) (rw (view-at 1 (own-place z)) (j .partner .ensures .0)) (search needs) (search needs) (ap (toldOf _) (m .telling .ensures))
+    dissem-tells (here a) _ _ _ _ _ (l .tells .ensures) (g .goes2 .ensures) (rw (view-at 1 (own-place z)) (j .partner .ensures .0)) (search needs) (search needs) (ap (toldOf _) (m .going .ensures))
 
 pub turn-spec : {M : Type 1} → statement M
 turn-spec =

@@ -1,9 +1,8 @@
--- `tree::barrier::going` meets its contract.
+-- `turns::made::going` meets its contract.
 use borrow.Author.Needs.{needs}
 use mathlib.Core.Path.{refl}
-use Rattle.rules.specs.Memory.{pick}
-use Rattle.tree.proofs.barrier.going.Statement.{statement}
-use Rattle.tree.proofs.barrier.going.Tie as tie
+use Rattle.turns.proofs.made.going.Statement.{statement}
+use Rattle.turns.proofs.made.going.Tie as tie
 
 returns : tie.Need-returns
 returns c =
