@@ -2,15 +2,13 @@
 use Prim.Native.Nat.{ℕ, _-_, _^_, _≤_, _<_}
 use mathlib.Core.Path.{_≡_, ap, sym, _∙_}
 use mathlib.Core.List.{List}
-use mathlib.Core.Bool.{true, false}
 use lib.ListN.{drop}
-use native.Mathlib.Decide.{decLe}
 use native.Mathlib.Omega.{arith}
 use Rattle.rules.specs.Bounds.{mostProcs, mostTicket, mostBudget}
-use Rattle.rules.specs.Machines.{bytes, numbered, known}
+use Rattle.rules.specs.Machines.{bytes}
 use Rattle.rules.specs.Rule.{ok, fault, lit}
 use Rattle.rules.specs.File.{name, field, front}
-use Rattle.rules.proofs.Known.{unknown-number}
+use Rattle.rules.proofs.Known.{known-range}
 use Rattle.laws.proofs.Names.{exact-name}
 use Rattle.laws.proofs.Whole.{exact-field}
 use Rattle.laws.proofs.RoundTrip.{exact-front}
@@ -90,20 +88,10 @@ module _ (s : List ℕ) (r : Step) (e : stepOf s r ≡ lit (bytes "algo=") s 0) 
     unfolding front
     front-ok m p′ h o k = rw (← e, f, ← g, h, k)
 
-known-most : (m : ℕ) → known (numbered m) ≡ true → m ≤ 4
-known-most m k = go (decLe m 4)
-  where
-    go : Dec (m ≤ 4) → m ≤ 4
-    go (yes h) = h
-    go (no n) =
-        let u : known (numbered m) ≡ false = unknown-number m (λ e. n (omega arith)) (λ e. n (omega arith)) (λ e. n (omega arith)) (λ e. n (omega arith)) in
-        let z : _≡_ {A = ℕ} 0 1 = cc in
-        absurd (omega arith)
-
 pub name-fits : (s : List ℕ) (p : ℕ) (q : Value) → valueOf s q ≡ name (drop p s) p → (m p′ : ℕ) → q ≡ Is m p′ → m < 2 ^ 16
 name-fits s p q g m p′ h =
     let w = exact-name .was (drop p s) p m (drop p′ s) p′ (sym g ∙ ap (valueOf s) h) in
-    omega (arith, known-most m (w .1))
+    omega (arith, known-range m (w .1))
 
 -- what the five lines say, where they are accepted
 pub front-small : (s : List ℕ) (o : Opened) → frontOf s o ≡ front s 0 → (h : Head) (p : ℕ) → o ≡ Good h p → h .procs ≤ mostProcs

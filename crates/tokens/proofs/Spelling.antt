@@ -1,13 +1,14 @@
 -- Names at a place of the file: one law for each way out.
 use Prim.Native.Nat.{ℕ, suc, _+_, _-_, _≤_, _<_}
-use mathlib.Core.Path.{_≡_}
+use mathlib.Core.Path.{_≡_, _∙_}
 use mathlib.Core.List.{List, [], _∷_, _++_}
 use mathlib.Core.Bool.{Bool, true, false}
 use lib.ListN.{length, getD, drop, drop-of-length-le, length-drop}
 use lib.Seq.{take-suc, getD-drop}
 use borrow.Author.Tests.{eq-eqb, ne-eqb, le-leb, lt-leb, lt-ltb}
 use native.Mathlib.Omega.{arith}
-use Rattle.rules.specs.Machines.{bytes, same, named}
+use Rattle.rules.specs.Memory.{pick}
+use Rattle.rules.specs.Machines.{Line, same, named}
 use Rattle.rules.specs.Bounds.{mostLetters}
 use Rattle.rules.specs.Rule.{Got, ok, fault, feed, letters, word}
 use Rattle.rules.specs.File.{name}
@@ -95,24 +96,17 @@ module _ (a b : List ℕ) (i : ℕ) (g : Bool) (e : g ≡ same (drop i a) (drop 
 
 -- ---- the table of names
 
-module _ (w : List ℕ) (t : Bool) (te : t ≡ same w (bytes "ticket")) where
-  pub named-ticket : t ≡ true → 1 ≡ named w .number
-  named-ticket th = rw (← te, th)
+module _ (t b : Bool) (e : t ≡ b) (x y : ℕ) where
+  pub either-yes : t ≡ true → x ≡ pick b x y
+  either-yes h = rw (← e, h)
 
-  module _ (tf : t ≡ false) (m : Bool) (me : m ≡ same w (bytes "mcs")) where
-    pub named-mcs : m ≡ true → 2 ≡ named w .number
-    named-mcs mh = rw (← te, tf, ← me, mh)
+  pub either-no : t ≡ false → y ≡ pick b x y
+  either-no h = rw (← e, h)
 
-    module _ (mf : m ≡ false) (c : Bool) (ce : c ≡ same w (bytes "central")) where
-      pub named-central : c ≡ true → 3 ≡ named w .number
-      named-central ch = rw (← te, tf, ← me, mf, ← ce, ch)
-
-      module _ (cf : c ≡ false) (d : Bool) (de : d ≡ same w (bytes "dissem")) where
-        pub named-dissem : d ≡ true → 4 ≡ named w .number
-        named-dissem dh = rw (← te, tf, ← me, mf, ← ce, cf, ← de, dh)
-
-        pub named-none : d ≡ false → 0 ≡ named w .number
-        named-none df = rw (← te, tf, ← me, mf, ← ce, cf, ← de, df)
+-- a line, and the lines after it
+pub line-number : (b : Bool) (r m : ℕ) (x y : Line) → r ≡ pick b (x .number) m → m ≡ y .number → r ≡ pick b x y .number
+line-number true r m x y e f = e
+line-number false r m x y e f = e ∙ f
 
 -- ---- a name
 

@@ -6,9 +6,11 @@ use settings::CENTRAL;
 use settings::DISSEM;
 use settings::MCS;
 use settings::TICKET;
+use settings::TREE;
 use settings::UNKNOWN;
 ghost use mathlib.Core.Path.{_≡_};
 ghost use lib.ListN.{length, drop};
+ghost use Rattle.rules.specs.Memory.{pick};
 ghost use Rattle.rules.specs.Machines.{same, named};
 ghost use Rattle.rules.specs.Rule.{word};
 ghost use Rattle.rules.specs.File.{name};
@@ -77,23 +79,25 @@ fn same(a: &[u8], b: &[u8]) -> bool
     }
 }
 
+// The number of a word that is the name; otherwise the name's number among the others.
+fn either(name: &[u8], word: &[u8], number: u16, others: u16) -> u16
+    ensures { λ r. ⌜ r ≡ pick (same (now (name .entry)) (now (word .entry))) number others ⌝ }
+{
+    if same(name, word) {
+        return number;
+    }
+    others
+}
+
 // The number of the machine of that name; 0 for none.
 fn named(name: &[u8]) -> u16
     ensures { λ r. ⌜ r ≡ named (now (name .entry)) .number ⌝ }
 {
-    if same(name, b"ticket") {
-        return TICKET;
-    }
-    if same(name, b"mcs") {
-        return MCS;
-    }
-    if same(name, b"central") {
-        return CENTRAL;
-    }
-    if same(name, b"dissem") {
-        return DISSEM;
-    }
-    0
+    let n = either(name, b"tree", TREE, 0);
+    let n = either(name, b"dissem", DISSEM, n);
+    let n = either(name, b"central", CENTRAL, n);
+    let n = either(name, b"mcs", MCS, n);
+    either(name, b"ticket", TICKET, n)
 }
 
 // A known name, by its number.

@@ -1,47 +1,36 @@
 -- Laws of the names, of putting the file's first line, and of the whole file in its parts.
-use Prim.Native.Nat.{ℕ}
-use mathlib.Core.Path.{_≡_, refl, sym, _∙_}
+use Prim.Native.Nat.{ℕ, suc, _≤_}
+use mathlib.Core.Path.{_≡_}
 use mathlib.Core.Logic.{_≢_}
 use mathlib.Core.Bool.{true}
 use mathlib.Core.List.{List, [], _∷_, _++_, append-assoc}
 use lib.ListN.{length, take}
-use native.Mathlib.Decide.{ℕ-discrete}
+use lib.Dec.{leb}
+use borrow.Author.Tests.{leb-true}
+use native.Mathlib.Nat.{le-antisymm}
 use native.Mathlib.Omega.{arith}
 use Rattle.rules.specs.Settings.{Settings}
-use Rattle.rules.specs.Machines.{bytes, numbered, known}
+use Rattle.rules.specs.Machines.{machines, bytes, numbered, known}
 use Rattle.rules.specs.Rule.{feed}
 use Rattle.rules.specs.File.{text}
-use Rattle.rules.proofs.Store.{false-true}
-use Rattle.rules.proofs.Known.{unknown-number}
+use Rattle.rules.proofs.Known.{known-range}
 use Rattle.writer.specs.PutView.{Room, Put, NameIs, nameText, algoText, lineText, frontText, turnsLine, fileText}
 use Rattle.writer.proofs.Puts.{room-first, room-second, room-third, put-third}
 
 -- ---- the names
 
--- the fourth machine is the only one left
-fourth : (algo : ℕ) → known (numbered algo) ≡ true → algo ≢ 1 → algo ≢ 2 → algo ≢ 3 → algo ≡ 4
-fourth algo e a b c = go (ℕ-discrete algo 4)
-  where
-    go : Dec (algo ≡ 4) → algo ≡ 4
-    go (yes d) = d
-    go (no d) = absurd (false-true (sym (unknown-number algo a b c d) ∙ e))
+-- the letters of machine n's name
+pub name-is : (n algo : ℕ) (letters : List ℕ) (count : ℕ) → algo ≡ n → take count letters ≡ numbered n .name
+    → count ≡ length (numbered n .name) → leb count 8 ≡ true → leb count (length letters) ≡ true → NameIs (nameText algo) letters count
+unfolding nameText
+name-is n algo letters count e i l f w = rw e (record { is = i; long = l; few = leb-true _ _ f; within = leb-true _ _ w })
 
-module _ (algo : ℕ) where
-  pub name-ticket : algo ≡ 1 → NameIs (nameText algo) (116 ∷ 105 ∷ 99 ∷ 107 ∷ 101 ∷ 116 ∷ 0 ∷ 0 ∷ []) 6
-  unfolding nameText
-  name-ticket e = rw e (record { is = refl; long = refl; few = omega arith; within = omega arith })
+after : {k n : ℕ} → k ≤ n → n ≢ k → suc k ≤ n
+after h d = omega arith
 
-  pub name-mcs : algo ≡ 2 → NameIs (nameText algo) (109 ∷ 99 ∷ 115 ∷ 0 ∷ 0 ∷ 0 ∷ 0 ∷ 0 ∷ []) 3
-  unfolding nameText
-  name-mcs e = rw e (record { is = refl; long = refl; few = omega arith; within = omega arith })
-
-  pub name-central : algo ≡ 3 → NameIs (nameText algo) (99 ∷ 101 ∷ 110 ∷ 116 ∷ 114 ∷ 97 ∷ 108 ∷ 0 ∷ []) 7
-  unfolding nameText
-  name-central e = rw e (record { is = refl; long = refl; few = omega arith; within = omega arith })
-
-  pub name-dissem : known (numbered algo) ≡ true → algo ≢ 1 → algo ≢ 2 → algo ≢ 3 → NameIs (nameText algo) (100 ∷ 105 ∷ 115 ∷ 115 ∷ 101 ∷ 109 ∷ 0 ∷ 0 ∷ []) 6
-  unfolding nameText
-  name-dissem k a b c = rw (fourth algo k a b c) (record { is = refl; long = refl; few = omega arith; within = omega arith })
+-- the last machine is the only one left
+pub last : (algo : ℕ) → known (numbered algo) ≡ true → algo ≢ 1 → algo ≢ 2 → algo ≢ 3 → algo ≢ 4 → algo ≡ machines
+last algo k a b c d = let r = known-range algo k in le-antisymm (r .1) (after (after (after (after (r .0) a) b) c) d)
 
 pub name-count : (name letters : List ℕ) (count : ℕ) → NameIs name letters count → count ≡ length (take count letters)
 name-count name letters count n = rw (n .is) (n .long)

@@ -1,5 +1,6 @@
 // The names of the machines, as they stand in the file.
 use settings::CENTRAL;
+use settings::DISSEM;
 use settings::MCS;
 use settings::TICKET;
 ghost use mathlib.Core.Path.{_≡_};
@@ -30,9 +31,13 @@ pub(crate) fn name_of(algo: u16) -> Name
             letters: [b'c', b'e', b'n', b't', b'r', b'a', b'l', 0],
             count: 7,
         },
-        _ => Name {
+        DISSEM => Name {
             letters: [b'd', b'i', b's', b's', b'e', b'm', 0, 0],
             count: 6,
+        },
+        _ => Name {
+            letters: [b't', b'r', b'e', b'e', 0, 0, 0, 0],
+            count: 4,
         },
     }
 }
