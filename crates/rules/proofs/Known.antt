@@ -1,28 +1,64 @@
 -- Which numbers are those of machines: 1 to `machines`.
-use mathlib.Core.Path.{_≡_, sym, _∙_}
+use mathlib.Core.Path.{_≡_, refl, sym, _∙_}
 use mathlib.Core.Logic.{_⊎_, inl, inr}
-use mathlib.Core.Bool.{true, false}
-use Prim.Native.Nat.{ℕ, _≤_, _<_}
+use mathlib.Core.Bool.{Bool, true, false, _&&_}
+use mathlib.Core.List.{List, [], _∷_}
+use Prim.Native.Nat.{ℕ, _+_, _≤_, _<_}
 use native.Mathlib.Decide.{ℕ-discrete, decLt}
 use native.Mathlib.Omega.{arith}
-use borrow.Author.Tests.{ne-eqb}
-use Rattle.rules.specs.Machines.{machines, numbered, known}
-use Rattle.rules.proofs.Store.{false-true}
+use borrow.Author.Tests.{eq-eqb, ne-eqb, eqb-true, lt-ltb}
+use lib.Dec.{eqb}
+use lib.ListN.{length}
+use Rattle.rules.specs.Machines.{Line, table, machines, find, numbered, known}
+use Rattle.rules.proofs.Store.{both, false-true}
+
+-- the lines have the numbers from k on, in order
+counts : ℕ → List Line → Bool
+counts k [] = true
+counts k (l ∷ ls) = eqb (l .number) k && counts (k + 1) ls
+
+table-counts : counts 1 table ≡ true
+unfolding counts
+table-counts = refl
+
+-- the line that is found
+abbrev of : ℕ → List Line → Line
+of n ls = find (λ l. eqb n (l .number)) ls
+
+among : (ls : List Line) (k n : ℕ) → counts k ls ≡ true → 0 < k → k ≤ n → n < k + length ls → known (of n ls) ≡ true
+unfolding counts
+among [] k n c z l h = absurd (omega arith)
+among (x ∷ ls) k n c z l h =
+    let w = both (eqb (x .number) k) (counts (k + 1) ls) c in
+    let e = eqb-true (x .number) k (w .0) in
+    go e (ℕ-discrete n (x .number)) (λ m. among ls (k + 1) n (w .1) (omega arith) m (omega arith))
+  where
+    go : x .number ≡ k → Dec (n ≡ x .number) → (k + 1 ≤ n → known (of n ls) ≡ true) → known (of n (x ∷ ls)) ≡ true
+    go e (yes d) r = rw (eq-eqb n (x .number) d) (lt-ltb 0 (x .number) (omega arith))
+    go e (no d) r = rw (ne-eqb n (x .number) d) (r (omega arith))
+
+beyond : (ls : List Line) (k n : ℕ) → counts k ls ≡ true → (n < k) ⊎ (k + length ls ≤ n) → known (of n ls) ≡ false
+unfolding counts
+beyond [] k n c h = refl
+beyond (x ∷ ls) k n c h =
+    let w = both (eqb (x .number) k) (counts (k + 1) ls) c in
+    let e = eqb-true (x .number) k (w .0) in
+    rw (ne-eqb n (x .number) (other e h)) (beyond ls (k + 1) n (w .1) (rest h))
+  where
+    other : x .number ≡ k → (n < k) ⊎ (k + length (x ∷ ls) ≤ n) → n ≡ x .number → ⊥
+    other e (inl b) d = omega arith
+    other e (inr b) d = omega arith
+
+    rest : (n < k) ⊎ (k + length (x ∷ ls) ≤ n) → (n < k + 1) ⊎ (k + 1 + length ls ≤ n)
+    rest (inl b) = inl (omega arith)
+    rest (inr b) = inr (omega arith)
 
 pub known-number : (n : ℕ) → 1 ≤ n → n ≤ machines → known (numbered n) ≡ true
-known-number n l h = go (ℕ-discrete n 1) (ℕ-discrete n 2) (ℕ-discrete n 3) (ℕ-discrete n 4) (ℕ-discrete n 5)
-  where
-    go : Dec (n ≡ 1) → Dec (n ≡ 2) → Dec (n ≡ 3) → Dec (n ≡ 4) → Dec (n ≡ 5) → known (numbered n) ≡ true
-    go (yes e) b c d f = rw e
-    go (no a) (yes e) c d f = rw e
-    go (no a) (no b) (yes e) d f = rw e
-    go (no a) (no b) (no c) (yes e) f = rw e
-    go (no a) (no b) (no c) (no d) (yes e) = rw e
-    go (no a) (no b) (no c) (no d) (no f) = absurd (omega arith)
+known-number n l h = among table 1 n table-counts (omega arith) l (omega arith)
 
 pub unknown-number : (n : ℕ) → (n < 1) ⊎ (machines < n) → known (numbered n) ≡ false
-unknown-number n (inl h) = rw (ne-eqb n 1 (λ e. omega arith), ne-eqb n 2 (λ e. omega arith), ne-eqb n 3 (λ e. omega arith), ne-eqb n 4 (λ e. omega arith), ne-eqb n 5 (λ e. omega arith))
-unknown-number n (inr h) = rw (ne-eqb n 1 (λ e. omega arith), ne-eqb n 2 (λ e. omega arith), ne-eqb n 3 (λ e. omega arith), ne-eqb n 4 (λ e. omega arith), ne-eqb n 5 (λ e. omega arith))
+unknown-number n (inl h) = beyond table 1 n table-counts (inl h)
+unknown-number n (inr h) = beyond table 1 n table-counts (inr (omega arith))
 
 pub known-range : (n : ℕ) → known (numbered n) ≡ true → (1 ≤ n) × (n ≤ machines)
 known-range n k = go (decLt n 1) (decLt machines n)

@@ -200,7 +200,15 @@ impl Tree {
         // Every arm returns: the state is then copied nowhere.
         match k {
             SETS => {
-                return ends(course, nodes.sets(i), w, after_sets(w, procs), w, first, hold);
+                return ends(
+                    course,
+                    nodes.sets(i),
+                    w,
+                    after_sets(w, procs),
+                    w,
+                    first,
+                    hold,
+                );
             }
             TELLS => {
                 let parent = (w - 1) / 4;
@@ -218,11 +226,27 @@ impl Tree {
                         made: made::spin(w),
                     };
                 }
-                return ends(course, nodes, w, waking(2 * w + 1, WAKES_LEFT, procs), w, false, hold);
+                return ends(
+                    course,
+                    nodes,
+                    w,
+                    waking(2 * w + 1, WAKES_LEFT, procs),
+                    w,
+                    false,
+                    hold,
+                );
             }
             WAKES_LEFT => {
                 let c = 2 * w + 1;
-                return ends(course, nodes.wakes(i, c as usize), w, waking(c + 1, WAKES_RIGHT, procs), c, false, hold);
+                return ends(
+                    course,
+                    nodes.wakes(i, c as usize),
+                    w,
+                    waking(c + 1, WAKES_RIGHT, procs),
+                    c,
+                    false,
+                    hold,
+                );
             }
             WAKES_RIGHT => {
                 let c = 2 * w + 2;
@@ -236,7 +260,15 @@ impl Tree {
                         made: made::going(w, first, true),
                     };
                 }
-                return ends(course, nodes, w, reading(w, k as u16 - 1, procs), w, first, hold);
+                return ends(
+                    course,
+                    nodes,
+                    w,
+                    reading(w, k as u16 - 1, procs),
+                    w,
+                    first,
+                    hold,
+                );
             }
         }
     }
