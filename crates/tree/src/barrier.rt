@@ -200,15 +200,8 @@ impl Tree {
         // Every arm returns: the state is then copied nowhere.
         match k {
             SETS => {
-                return ends(
-                    course,
-                    nodes.sets(i),
-                    w,
-                    after_sets(w, procs),
-                    w,
-                    first,
-                    hold,
-                );
+                let next = after_sets(w, procs);
+                return ends(course, nodes.sets(i), w, next, w, first, hold);
             }
             TELLS => {
                 let parent = (w - 1) / 4;
@@ -226,27 +219,13 @@ impl Tree {
                         made: made::spin(w),
                     };
                 }
-                return ends(
-                    course,
-                    nodes,
-                    w,
-                    waking(2 * w + 1, WAKES_LEFT, procs),
-                    w,
-                    false,
-                    hold,
-                );
+                let next = waking(2 * w + 1, WAKES_LEFT, procs);
+                return ends(course, nodes, w, next, w, false, hold);
             }
             WAKES_LEFT => {
                 let c = 2 * w + 1;
-                return ends(
-                    course,
-                    nodes.wakes(i, c as usize),
-                    w,
-                    waking(c + 1, WAKES_RIGHT, procs),
-                    c,
-                    false,
-                    hold,
-                );
+                let next = waking(c + 1, WAKES_RIGHT, procs);
+                return ends(course, nodes.wakes(i, c as usize), w, next, c, false, hold);
             }
             WAKES_RIGHT => {
                 let c = 2 * w + 2;
@@ -260,15 +239,8 @@ impl Tree {
                         made: made::going(w, first, true),
                     };
                 }
-                return ends(
-                    course,
-                    nodes,
-                    w,
-                    reading(w, k as u16 - 1, procs),
-                    w,
-                    first,
-                    hold,
-                );
+                let next = reading(w, k as u16 - 1, procs);
+                return ends(course, nodes, w, next, w, first, hold);
             }
         }
     }

@@ -207,7 +207,7 @@ turn-spec =
     sub-parent (λ c. search needs) sub-clears (λ c. search needs) (λ c κs. search needs) (λ c κs. search needs) (λ c κs. search needs) returns-4
     (λ c κs. search needs) (λ c κs. search needs) (λ c κs. search needs) returns-5
     (λ c. search needs) (λ c. search needs) (λ c κs. search needs) ends-requires-2 returns-6
-    (λ c. search needs) (λ c. search needs) (λ c. search needs) wakes-requires (λ c. search needs) (λ c κs. search needs) ends-requires-3 returns-7
+    (λ c. search needs) (λ c. search needs) (λ c. search needs) (λ c κs. search needs) (λ c. search needs) wakes-requires ends-requires-3 returns-7
     (λ c. search needs) (λ c. search needs) (λ c. search needs) wakes-requires-2 (λ c κs. search needs) returns-8
     bit-requires-3 goes-requires-2 (λ c κs. search needs) returns-9
     (λ c. search needs) sub-reading reading-requires ends-requires-5 returns-10)
