@@ -1,5 +1,5 @@
 -- What the code's dissemination barrier stands for in the rules.
-use Prim.Native.Nat.{ℕ, _/_, _%_, _^_, _<_}
+use Prim.Native.Nat.{ℕ, _/_, _%_, _<_}
 use mathlib.Core.Path.{_≡_}
 use Rattle.rules.specs.Course.{Course}
 use Rattle.rules.specs.Dissem.{State}

@@ -53,7 +53,7 @@ wakesNext c k first access s x i = pick (ltb c (s .procs)) (goesOn first access 
 
 -- ---- the steps
 
--- the step that reads the flag in this slot; the step after slot 3, where the child of this slot is absent
+-- where the flag in this slot comes next: 2 + slot reads it; where that child is absent, all are read, and 6 follows. 6 comes after slot 3 too
 abbrev pub reading : Settings → ℕ → ℕ → ℕ
 reading s i slot = pick (ltb (child i slot) (s .procs)) (2 + slot) 6
 
@@ -91,6 +91,7 @@ wakesLeft s x i = wakesNext (right i) 10 false (writes (left i) 1) s (woken (lef
 abbrev pub wakesRight : State → ℕ → Step State
 wakesRight x i = leaves false (writes (right i) 1) (woken (right i) x i) i
 
+-- what is done at step k
 abbrev pub does : (first : Bool) → Settings → State → ℕ → ℕ → Step State
 does first s x k i =
     pick (eqb k 6) (sets first s x i) (

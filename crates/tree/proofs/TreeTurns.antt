@@ -1,23 +1,22 @@
 -- Laws for the tree barrier's `turn`: one for each way that it goes.
-use mathlib.Core.Path.{_≡_, refl, sym, ap, _∙_}
+use mathlib.Core.Path.{_≡_, refl, ap, _∙_}
 use mathlib.Core.Logic.{_≢_}
 use mathlib.Core.Bool.{Bool, true, false}
-use mathlib.Core.List.{List, [], _∷_, map}
-use Prim.Native.Nat.{ℕ, _+_, _-_, _*_, _≤_, _<_}
+use mathlib.Core.List.{[]}
+use Prim.Native.Nat.{ℕ, _+_, _-_, _≤_, _<_}
 use native.Mathlib.Decide.{ℕ-discrete}
 use native.Mathlib.Omega.{arith}
 use borrow.Author.Tests.{eq-eqb, ne-eqb, ltb-true}
 use lib.Dec.{eqb, ltb}
 use Rattle.rules.specs.Memory.{pick, upd, each}
 use Rattle.rules.specs.Settings.{Settings}
-use Rattle.rules.specs.Step.{Manner, read, write, Access, made, reads, writes, remote, Says, nothing, one, two, arrive, leave, said, code, stay, again, to, Step}
+use Rattle.rules.specs.Step.{Manner, read, write, Access, made, reads, writes, remote, nothing, one, two, arrive, leave, again, to, Step}
 use Rattle.rules.specs.Course.{Course, outset, holding}
-use Rattle.rules.specs.Tree.{State, parent, slot, child, left, right, goesOn, leaves, wakesNext, reading, looks, sets, tells, waits, woken, wakesLeft, wakesRight, does, step, machine}
+use Rattle.rules.specs.Tree.{State, parent, slot, child, left, right, goesOn, leaves, wakesNext, reading, looks, sets, tells, waits, woken, does, step, machine}
 use Rattle.rules.proofs.Store.{upd-same, upd-other, either, by-test}
 use Rattle.rules.proofs.Turned.{Told, toldStep}
 use Rattle.turns.specs.declared.course.Due.{Due}
 use Rattle.turns.specs.declared.course.Due.the-variants as due
-use Rattle.turns.specs.declared.made.Made.{Made}
 use Rattle.turns.specs.View.{held, goneTo, ended, toldOf, Dues, Turns}
 use Rattle.turns.proofs.Turning.{untold, touching, turns-hold, turns-idle, turns-stay, turns-again, turns-to, turns-leave}
 use Rattle.tree.specs.declared.barrier.Tree.{Tree}

@@ -1,7 +1,6 @@
 -- `dissem::barrier::Dissem::turn` meets its contract: each return is one way that a turn goes.
 use borrow.Author.Needs.{needs}
 use mathlib.Core.Path.{_≡_, refl, sym, ap, _∙_}
-use Prim.Native.Nat.{_<_}
 use native.Mathlib.Omega.{arith}
 use lib.ListN.{length}
 use Rattle.rules.proofs.Views.{Place, view-at}

@@ -1,7 +1,5 @@
 -- `tree::barrier::Tree::start` meets its contract.
 use borrow.Author.Needs.{needs}
-use mathlib.Core.Path.{refl, ap}
-use native.Mathlib.Omega.{arith}
 use Rattle.tree.proofs.TreeNodes.{first-nodes}
 use Rattle.tree.proofs.TreeTurns.{sound-first}
 use Rattle.tree.proofs.barrier.Tree.start.Statement.{statement}
