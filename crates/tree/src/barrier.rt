@@ -135,7 +135,7 @@ impl Nodes {
 }
 
 // How processor w's turn ends, by the step that comes next: the passage goes on, or it leaves.
-fn ends(course: Course, nodes: Nodes, w: u16, next: u8, owner: u16, first: bool, hold: u8) -> Tree
+fn ends(nodes: Nodes, course: Course, w: u16, next: u8, owner: u16, first: bool, hold: u8) -> Tree
     requires { ⌜ (w < 64) × (next < 128) × (courseOf course .done w < 65535) ⌝ }
     ensures { λ r. ⌜ Ends (nodesOf nodes) (courseOf course) w next owner first hold r ⌝ }
 {
@@ -173,8 +173,8 @@ impl Tree {
         ensures { λ r. ⌜ Turns machine (λ s. s .procs ≡ procs) w rounds hold (stateOf self) (courseIn self) (stateOf r) (courseIn r) (toldOf w (r .made)) × Sound procs (courseIn r) ⌝ }
     {
         let i = w as usize;
-        let course = self.course;
         let nodes = self.nodes;
+        let course = self.course;
         let due = course.due(i, rounds);
         let step = match due {
             Due::Hold => {
@@ -197,11 +197,11 @@ impl Tree {
         let word = words[i];
         let first = step == 1;
         let k = doing(step, w, procs);
-        // Every arm returns: the state is then copied nowhere.
+        // Every arm returns, and the steps are no function of their own: the state is then copied nowhere.
         match k {
             SETS => {
                 let next = after_sets(w, procs);
-                return ends(course, nodes.sets(i), w, next, w, first, hold);
+                return ends(nodes.sets(i), course, w, next, w, first, hold);
             }
             TELLS => {
                 let parent = (w - 1) / 4;
@@ -220,16 +220,16 @@ impl Tree {
                     };
                 }
                 let next = waking(2 * w + 1, WAKES_LEFT, procs);
-                return ends(course, nodes, w, next, w, false, hold);
+                return ends(nodes, course, w, next, w, false, hold);
             }
             WAKES_LEFT => {
                 let c = 2 * w + 1;
                 let next = waking(c + 1, WAKES_RIGHT, procs);
-                return ends(course, nodes.wakes(i, c as usize), w, next, c, false, hold);
+                return ends(nodes.wakes(i, c as usize), course, w, next, c, false, hold);
             }
             WAKES_RIGHT => {
                 let c = 2 * w + 2;
-                return ends(course, nodes.wakes(i, c as usize), w, OVER, c, false, hold);
+                return ends(nodes.wakes(i, c as usize), course, w, OVER, c, false, hold);
             }
             _ => {
                 if bit(word, k) == 0 {
@@ -240,7 +240,7 @@ impl Tree {
                     };
                 }
                 let next = reading(w, k as u16 - 1, procs);
-                return ends(course, nodes, w, next, w, first, hold);
+                return ends(nodes, course, w, next, w, first, hold);
             }
         }
     }
