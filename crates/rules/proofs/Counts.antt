@@ -1,18 +1,18 @@
 -- How large the numbers of a run can get: what a program needs to know of its buffers and number types.
 use mathlib.Core.List.{List, [], _∷_}
-use Prim.Native.Nat.{ℕ, _+_, _*_, _≤_}
+use Prim.Native.Nat.{ℕ, _+_, _≤_}
 use native.Mathlib.Omega.{arith}
 use lib.Dec.{eqb}
-use lib.ListN.{length, length-append}
+use lib.ListN.{length}
 use Rattle.rules.specs.Memory.{upd}
 use Rattle.rules.specs.Settings.{Settings}
-use Rattle.rules.specs.Step.{remote, Next, stay, again, to, over, said, Machine}
+use Rattle.rules.specs.Step.{remote, Next, stay, again, to, over, Machine}
 use Rattle.rules.specs.Course as course
 use Rattle.rules.specs.Course.{Course, Turn, holds, idles, makes, ends}
 use Rattle.rules.specs.Tally.{Tally, spun, begun, tally}
-use Rattle.rules.specs.Play.{Run, first, next, taking, after, play, whole}
+use Rattle.rules.specs.Play.{Run, first, taking, after, play, whole}
 use Rattle.rules.proofs.Store.{either}
-use Rattle.rules.proofs.Steps.{remote≤, said≤}
+use Rattle.rules.proofs.Steps.{remote≤}
 use Rattle.rules.proofs.Plays.{by-after, by-whole}
 
 -- no number of the table, and not the total, is above n
@@ -79,33 +79,10 @@ module _ (m : Machine) (s : Settings) where
         total = omega (arith, b .total);
       }
 
-  abbrev Small : Run (m .State) → Type 0
-  Small r = Table≤ (r .taken) (r .course) (r .tally)
-
-  small-turn : (r : Run (m .State)) (i : ℕ) → Small r → Small (after m s r i)
-  unfolding taking
-  small-turn r i b = by-after m s r i Small b b (λ l. grown (r .taken) i (r .course .at i) (r .course) (r .tally) (next m s r i) b)
-
-  -- every number of the table is at most the turns taken
-  pub table-small : (t : List ℕ) → Small (whole m s t)
-  table-small = by-whole m s Small small-turn
-      (record { done = λ j. omega arith; far = λ j. omega arith; most = λ j. omega arith; here = λ j. omega arith; spins = λ j. omega arith; idle = λ j. omega arith; total = omega arith })
-
   -- the total is never past the budget
   pub within-budget : (t : List ℕ) → whole m s t .tally .total ≤ s .budget
   within-budget =
       by-whole m s (λ r. r .tally .total ≤ s .budget) (λ r i h. by-after m s r i (λ q. q .tally .total ≤ s .budget) h h (λ l. l)) (omega arith)
-
-  -- there are at most two events a turn taken
-  said-turn : (r : Run (m .State)) (i : ℕ) → length (r .events) ≤ 2 * r .taken → length (after m s r i .events) ≤ 2 * after m s r i .taken
-  unfolding taking
-  said-turn r i h =
-      let w = said≤ i (course.says (next m s r i)) in
-      by-after m s r i (λ q. length (q .events) ≤ 2 * q .taken) h h
-      (λ l. rw (length-append (r .events) (said i (course.says (next m s r i)))) (omega arith))
-
-  pub events-few : (t : List ℕ) → length (whole m s t .events) ≤ 2 * whole m s t .taken
-  events-few = by-whole m s (λ q. length (q .events) ≤ 2 * q .taken) said-turn (omega arith)
 
   -- no more turns are taken than there are
   taken-play : (t : List ℕ) (r : Run (m .State)) → play m s t r .taken ≤ r .taken + length t
