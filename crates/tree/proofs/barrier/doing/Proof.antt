@@ -9,12 +9,14 @@ returns : tie.Need-returns
 returns c =
     let r : tie.After-reading = search needs in
     let k : tie.Then1 = search needs in
-    rw (eq-eqb _ _ (k .if1 .taken)) (r .reading .ensures)
+    let z : tie.Start = search needs in
+    rw (eq-eqb (z .args .step) 1 (k .if1 .taken)) (r .reading .ensures)
 
 returns-2 : tie.Need-returns-2
 returns-2 c =
     let k : tie.Else1 = search needs in
-    rw (ne-eqb _ _ (k .if1 .left)) refl
+    let z : tie.Start = search needs in
+    rw (ne-eqb (z .args .step) 1 (k .if1 .left)) refl
 
 pub doing-spec : {M : Type 1} → statement M
 doing-spec =
