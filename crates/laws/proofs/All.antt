@@ -1,5 +1,5 @@
 -- The laws, each by its proof.
-use Rattle.rules.specs.Cases.{all-hold}
+use Rattle.rules.specs.Cases.{all-hold, requested-hold}
 use Rattle.rules.proofs.Plays.{continued}
 use Rattle.rules.proofs.Counts.{within-budget}
 use Rattle.laws.specs.Laws.{Laws}
@@ -17,6 +17,7 @@ use Rattle.laws.proofs.Doubling.{doublings-hold}
 pub all-laws : Laws
 all-laws = record {
   cases = all-hold;
+  requested = requested-hold;
   beginnings = record {
     continued = continued;
     contains = beginnings.beginnings;

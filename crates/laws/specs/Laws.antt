@@ -20,7 +20,7 @@ use Rattle.rules.specs.Dissem.{doublings}
 use Rattle.rules.specs.Machines.{lock, machines, numbered, machine}
 use Rattle.rules.specs.File.{text}
 use Rattle.rules.specs.Calls.{over, allBelow, refusal, Record, Reading, reading, Writing, writing, acceptedRun, running}
-use Rattle.rules.specs.Cases.{All, cases}
+use Rattle.rules.specs.Cases.{All, cases, requested}
 
 -- ---- words
 
@@ -326,6 +326,8 @@ pub record Doublings : Type 0 where
 pub record Laws : Type 1 where
   -- the eleven cases that document 01 marks
   pub cases : All cases
+  -- cases of document 02's requests, worked out by hand
+  pub requested : All requested
   pub beginnings : Beginnings
   pub courses : Courses
   pub line : Line

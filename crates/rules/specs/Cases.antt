@@ -1,4 +1,4 @@
--- The eleven cases that document 01 marks, as one list.
+-- The eleven cases that document 01 marks, as one list; and cases of document 02's requests, as another.
 use Prim.Native.Nat.{ℕ}
 use Prim.Native.String.{String}
 use mathlib.Core.Path.{_≡_, refl}
@@ -15,6 +15,7 @@ use Rattle.rules.specs.Mcs as mcs
 use Rattle.rules.specs.Central as central
 use Rattle.rules.specs.Dissem as dissem
 use Rattle.rules.specs.Dissem.{doublings, doubled}
+use Rattle.rules.specs.Tree as tree
 use Rattle.rules.specs.Machines.{bytes}
 use Rattle.rules.specs.Rule.{lit, letters, word, digits, number}
 use Rattle.rules.specs.File as file
@@ -32,12 +33,12 @@ p done remote most spins idle = record { done = done; remote = remote; most = mo
 -- the lent buffers, long enough for these cases
 abbrev pub played : Settings → List ℕ → Shown
 played s ts =
-    let r = running s ts (replicate 64 0) (replicate 4 (p 0 0 0 0 0)) in
+    let r = running s ts (replicate 80 0) (replicate 8 (p 0 0 0 0 0)) in
     shows (r .answer .turns) (r .answer .stop) (r .answer .total) (take (s .procs) (r .table)) (take (r .answer .events) (r .events))
 
 abbrev pub shown : List ℕ → Shown
 shown f =
-    let r = reading f (replicate 32 0) in
+    let r = reading f (replicate 40 0) in
     pick (eqb (r .answer .number) 0)
     (played (r .answer .settings) (take (r .answer .count) (r .schedule)))
     (refused (r .answer .number) (r .answer .place))
@@ -84,3 +85,21 @@ cases =
 pub all-hold : All cases
 unfolding cases upd remote turn whole play after within taking ticket.step mcs.step central.step dissem.step doublings doubled lit letters word digits number decimalIn decimal rows items turns front rest file.whole file.file inRow inRange allBelow refusal readingOf acceptedRun running
 all-hold = (refl, (refl, (refl, (refl, (refl, (refl, (refl, (refl, (refl, (refl, (refl, tt)))))))))))
+
+-- ---- requests of document 02: cases that were worked out by hand
+
+-- the tree barrier: seven processors meet once, which shows both trees; two meet twice; one is alone, with a hold turn
+unfoldable pub requested : List Case
+requested =
+    gives (bytes "algo=tree\nprocs=7\nhome=0\nticket=0\nbudget=16384\np0=1,0\np1=1,0\np2=1,0\np3=1,0\np4=1,0\np5=1,0\np6=1,0\nturns=0,5,5,1,1,6,6,1,1,1,0,0,2,2,3,3,4,4,3,0,0,0,0,0,0,1,1,1,3,4,6,2,2,2,5,6\n")
+    (shows 36 0 12 (p 1 2 2 2 0 ∷ p 1 3 3 1 0 ∷ p 1 3 3 0 0 ∷ p 1 1 1 1 0 ∷ p 1 1 1 0 0 ∷ p 1 1 1 0 0 ∷ p 1 1 1 1 0 ∷ [])
+    (1024 ∷ 1029 ∷ 1025 ∷ 1030 ∷ 1026 ∷ 1027 ∷ 1028 ∷ 1280 ∷ 1281 ∷ 1283 ∷ 1284 ∷ 1282 ∷ 1285 ∷ 1286 ∷ []))
+    ∷ gives (bytes "algo=tree\nprocs=2\nhome=0\nticket=0\nbudget=16384\np0=2,0\np1=2,0\nturns=0,1,1,0,0,0,0,1,0,1,0,1,1,0,0,0,1,0,1\n")
+    (shows 19 0 4 (p 2 2 1 4 1 ∷ p 2 2 1 1 1 ∷ []) (1024 ∷ 1025 ∷ 1280 ∷ 1024 ∷ 1281 ∷ 1025 ∷ 1280 ∷ 1281 ∷ []))
+    ∷ gives (bytes "algo=tree\nprocs=1\nhome=0\nticket=0\nbudget=0\np0=2,1\nturns=0,0,0,0,0,0\n")
+    (shows 6 0 0 (p 2 0 0 0 2 ∷ []) (1024 ∷ 1280 ∷ 1024 ∷ 1280 ∷ []))
+    ∷ []
+
+pub requested-hold : All requested
+unfolding requested upd remote turn whole play after within taking tree.step lit letters word digits number decimalIn decimal rows items turns front rest file.whole file.file inRow inRange allBelow refusal readingOf acceptedRun running
+requested-hold = (refl, (refl, (refl, tt)))
