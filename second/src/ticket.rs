@@ -20,8 +20,10 @@ enum Point {
     SpinServing { my_ticket: u16 },
     /// Between `acquire_lock` and `release_lock`.
     Hold { left: u16 },
-    /// `L->now_serving := L->now_serving + 1`, in one turn
-    ServeNext,
+    /// `L->now_serving := L->now_serving + 1`, its read
+    ReadServing,
+    /// `L->now_serving := L->now_serving + 1`, its write; `serving` was read
+    WriteServing { serving: u16 },
     /// All passages are done.
     Idle,
 }
@@ -61,7 +63,7 @@ impl Ticket {
 
     fn holding(&self, left: u16) -> Point {
         if left == 0 {
-            Point::ServeNext
+            Point::ReadServing
         } else {
             Point::Hold { left }
         }
@@ -95,7 +97,9 @@ impl Routine for Ticket {
     fn touches(&self, lock: &Lock) -> Option<Address> {
         match self.point {
             Point::TakeTicket => Some(lock.next_ticket),
-            Point::SpinServing { .. } | Point::ServeNext => Some(lock.now_serving),
+            Point::SpinServing { .. } | Point::ReadServing | Point::WriteServing { .. } => {
+                Some(lock.now_serving)
+            }
             Point::Hold { .. } | Point::Idle => None,
         }
     }
@@ -111,8 +115,13 @@ impl Routine for Ticket {
             }
             Point::SpinServing { my_ticket } => self.spin_serving(my_ticket, lock, memory, notes),
             Point::Hold { left } => self.holding(left - 1),
-            Point::ServeNext => {
-                memory.fetch_and_increment(me, lock.now_serving);
+            Point::ReadServing => {
+                let serving = memory.read(me, lock.now_serving);
+                Point::WriteServing { serving }
+            }
+            // After 65535 comes 0.
+            Point::WriteServing { serving } => {
+                memory.write(me, lock.now_serving, serving.wrapping_add(1));
                 self.released(notes)
             }
             Point::Idle => {
