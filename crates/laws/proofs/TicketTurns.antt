@@ -13,7 +13,7 @@ use Rattle.rules.specs.Memory.{pick, upd}
 use Rattle.rules.specs.Bounds.{mostTicket}
 use Rattle.rules.specs.Settings.{Settings}
 use Rattle.rules.specs.Step.{grant, one, Step}
-use Rattle.rules.specs.Ticket.{State, up, asks, waits, frees, step, machine}
+use Rattle.rules.specs.Ticket.{State, up, asks, waits, finds, frees, step, machine}
 use Rattle.rules.proofs.Store.{upd-same, upd-other, zero-suc, either}
 use Rattle.rules.proofs.Accepted.{Below}
 use Rattle.laws.specs.Laws.{Without, Within}
@@ -34,6 +34,7 @@ Tickets mine request n (a ∷ r) = (mine a ≡ n % wrap) × Tickets mine request
 data Head (at : ℕ → ℕ) (a : ℕ) (g : List ℕ) : Type 0 where
   h2 : at a ≡ 2 → g ≡ [] → Head at a g
   h3 : at a ≡ 3 → g ≡ a ∷ [] → Head at a g
+  h4 : at a ≡ 4 → g ≡ a ∷ [] → Head at a g
 
 -- all of these wait at step 2
 abbrev Waiting : (ℕ → ℕ) → List ℕ → Type 0
@@ -44,7 +45,7 @@ abbrev Line : (ℕ → ℕ) → List ℕ → List ℕ → Type 0
 Line at [] g = g ≡ []
 Line at (a ∷ r) g = Head at a g × Waiting at r
 
--- n is the number of the first of the line, or of the next to come; who is outside is at step 1
+-- n is the number of the first of the line, or of the next to come; who is outside is at step 1; what the releaser found still stands
 record Inv (p : ℕ) (x : State) (at : ℕ → ℕ) (q g : List ℕ) : Type 0 where
   n : ℕ
   now : x .release ≡ n % wrap
@@ -53,6 +54,7 @@ record Inv (p : ℕ) (x : State) (at : ℕ → ℕ) (q g : List ℕ) : Type 0 wh
   below : Below p q
   line : Line at q g
   out : (j : ℕ) → Without j q → at j ≡ 1
+  kept : (j : ℕ) → at j ≡ 4 → x .found j ≡ x .release
 
 -- ---- what a step leaves alone
 
@@ -74,6 +76,15 @@ waits-at at i [] w m = absurd m
 head-keep : (at : ℕ → ℕ) (i k a : ℕ) (g : List ℕ) → a ≢ i → Head at a g → Head (upd at i k) a g
 head-keep at i k a g n (h2 e z) = h2 (upd-other at i k a n ∙ e) z
 head-keep at i k a g n (h3 e z) = h3 (upd-other at i k a n ∙ e) z
+head-keep at i k a g n (h4 e z) = h4 (upd-other at i k a n ∙ e) z
+
+-- who is at step 4 was there before another step came up
+at-4 : (at : ℕ → ℕ) (i k j : ℕ) → k ≢ 4 → upd at i k j ≡ 4 → at j ≡ 4
+at-4 at i k j n e = go (ℕ-discrete j i)
+  where
+    go : Dec (j ≡ i) → at j ≡ 4
+    go (yes z) = absurd (n (sym (upd-same at i k) ∙ rw z at e))
+    go (no z) = sym (upd-other at i k j z) ∙ e
 
 -- ---- tickets
 
@@ -118,6 +129,7 @@ module _ (s : Settings) (small : s .procs ≤ mostTicket + 1) (x : State) (at : 
       below = below-snoc (s .procs) i q b (v .below);
       line = line-snoc i q g f (v .line);
       out = λ j h. let w = without-init j i q h in upd-other at i 2 j (w .1) ∙ v .out j (w .0);
+      kept = λ j e. v .kept j (at-4 at i 2 j (omega arith) e);
     };
   }
 
@@ -147,23 +159,42 @@ module _ (s : Settings) (small : s .procs ≤ mostTicket + 1) (x : State) (at : 
       below = v .below;
       line = (h3 (upd-same at a 3) refl, waiting-keep at a 3 r (v .nodup .0) (v .line .1));
       out = λ j f. upd-other at a 3 j (Ne·symm (f .0)) ∙ v .out j f;
+      kept = λ j e. v .kept j (at-4 at a 3 j (omega arith) e);
     };
   }
 
-  -- 3: the holder goes, and the next is the first
-  turn3 : (a : ℕ) (r g : List ℕ) → Inv (s .procs) x at (a ∷ r) g → g ≡ a ∷ [] → Next (frees s x) a (a ∷ r) g
-  turn3 a r g v z = record {
+  -- 3: the holder reads
+  turn3 : (a : ℕ) (r g : List ℕ) → Inv (s .procs) x at (a ∷ r) g → g ≡ a ∷ [] → Next (finds s x a) a (a ∷ r) g
+  turn3 a r g v z = resting refl (record {
+    n = v .n;
+    now = v .now;
+    tickets = v .tickets;
+    nodup = v .nodup;
+    below = v .below;
+    line = (h4 (upd-same at a 4) z, waiting-keep at a 4 r (v .nodup .0) (v .line .1));
+    out = λ j f. upd-other at a 4 j (Ne·symm (f .0)) ∙ v .out j f;
+    kept = λ j e. found j e (ℕ-discrete j a);
+  })
+    where
+      found : (j : ℕ) → upd at a 4 j ≡ 4 → Dec (j ≡ a) → upd (x .found) a (x .release) j ≡ x .release
+      found j e (yes z) = rw z (upd-same (x .found) a (x .release))
+      found j e (no z) = upd-other (x .found) a (x .release) j z ∙ v .kept j (sym (upd-other at a 4 j z) ∙ e)
+
+  -- 4: the holder writes, and the next is the first. Nobody else has read to write
+  turn4 : (a : ℕ) (r g : List ℕ) → Inv (s .procs) x at (a ∷ r) g → at a ≡ 4 → g ≡ a ∷ [] → Next (frees s x a) a (a ∷ r) g
+  turn4 a r g v h z = record {
     q′ = r;
     g′ = [];
     moves = rw z locks.frees;
     inv = record {
       n = suc (v .n);
-      now = up-is (x .release) (v .n) (v .now);
+      now = up-is (x .found a) (v .n) (v .kept a h ∙ v .now);
       tickets = v .tickets .1;
       nodup = v .nodup .1;
       below = v .below .1;
       line = next-first r (waiting-keep at a 1 r (v .nodup .0) (v .line .1));
       out = λ j f. gone j f (ℕ-discrete j a);
+      kept = λ j e. absurd (alone j e (ℕ-discrete j a) (find j (a ∷ r)));
     };
   }
     where
@@ -175,6 +206,12 @@ module _ (s : Settings) (small : s .procs ≤ mostTicket + 1) (x : State) (at : 
       gone j f (yes e) = rw e (upd-same at a 1)
       gone j f (no n) = upd-other at a 1 j n ∙ v .out j (Ne·symm n, f)
 
+      alone : (j : ℕ) → upd at a 1 j ≡ 4 → Dec (j ≡ a) → Place j (a ∷ r) → ⊥
+      alone j e (yes z) p = let y : upd at a 1 a ≡ 4 = rw z at e in omega (arith, y, upd-same at a 1)
+      alone j e (no z) (outside f) = omega (arith, e, upd-other at a 1 j z, v .out j f)
+      alone j e (no z) first = z refl
+      alone j e (no z) (behind m) = omega (arith, e, upd-other at a 1 j z, waits-at at j r (v .line .1) m)
+
   head-turn : (a : ℕ) (r g : List ℕ) → Inv (s .procs) x at (a ∷ r) g → Next (step s x (at a) a) a (a ∷ r) g
   unfolding step
   head-turn a r g v = go (v .line .0)
@@ -182,6 +219,7 @@ module _ (s : Settings) (small : s .procs ≤ mostTicket + 1) (x : State) (at : 
       go : Head at a g → Next (step s x (at a) a) a (a ∷ r) g
       go (h2 e z) = rw (e, eq-eqb _ _ (v .now ∙ sym (v .tickets .0))) (turn2 a r g v z)
       go (h3 e z) = rw e (turn3 a r g v z)
+      go (h4 e z) = rw e (turn4 a r g v e z)
 
   one-turn : (i : ℕ) (q g : List ℕ) → i < s .procs → Inv (s .procs) x at q g → Next (step s x (at i) i) i q g
   unfolding step
@@ -200,11 +238,12 @@ module _ (s : Settings) (small : s .procs ≤ mostTicket + 1) (x : State) (at : 
       go : Head at f [] → (at f ≢ 1) × (at f ≢ 3) × (step s x (at f) f .says ≡ one grant)
       go (h2 e z) = (omega arith, omega arith, rw (e, eq-eqb _ _ (v .now ∙ sym (v .tickets .0))) refl)
       go (h3 e z) = absurd (zero-suc (ap length z))
+      go (h4 e z) = absurd (zero-suc (ap length z))
 
 -- only a grant starts hold turns, and it goes to 3
 enters-3 : (s : Settings) (x : State) (k i : ℕ) → Enters 3 (step s x k i)
 unfolding step
-enters-3 s x k i = or 1 (no-hold refl) (or 2 (wait (eqb (x .release) (x .mine i))) (no-hold refl))
+enters-3 s x k i = or 1 (no-hold refl) (or 2 (wait (eqb (x .release) (x .mine i))) (or 3 (no-hold refl) (no-hold refl)))
   where
     or : (n : ℕ) {t u : Step State} → Enters 3 t → Enters 3 u → Enters 3 (pick (eqb k n) t u)
     or n {t} {u} = either (Enters 3) (eqb k n) t u
@@ -217,7 +256,7 @@ pub ticket : (s : Settings) → s .procs ≤ mostTicket + 1 → s .ticket ≤ mo
 ticket s small t = record {
   Inv = Inv (s .procs);
   in-it = 3;
-  start = record { n = s .ticket; now = omega arith; tickets = omega arith; nodup = tt; below = tt; line = refl; out = λ j f. refl };
+  start = record { n = s .ticket; now = omega arith; tickets = omega arith; nodup = tt; below = tt; line = refl; out = λ j f. refl; kept = λ j e. absurd (omega arith) };
   step = λ x at i q g b v. one-turn s small x at i q g b v;
   waits = λ x at f r v. first-waits s small x at f r v;
   enters-it = enters-3 s;

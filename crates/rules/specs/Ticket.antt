@@ -1,17 +1,18 @@
 -- The ticket lock (figure 2). At home live the request counter, variable 0, and the release counter, variable 1.
--- A processor keeps its ticket for itself.
+-- A processor keeps for itself its ticket and, from 3 to 4, what it found in the release counter.
 use Prim.Native.Nat.{ℕ, _+_, _%_}
 use mathlib.Core.Bool.{Bool, true, false}
 use lib.Dec.{eqb}
 use Rattle.rules.specs.Memory.{pick, upd, each}
 use Rattle.rules.specs.Bounds.{mostTicket}
 use Rattle.rules.specs.Settings.{Settings}
-use Rattle.rules.specs.Step.{reads, atomics, nothing, one, join, grant, release, stay, to, over, Step, Machine}
+use Rattle.rules.specs.Step.{reads, writes, atomics, nothing, one, join, grant, release, stay, to, over, Step, Machine}
 
 pub record State : Type 0 where
   pub request : ℕ
   pub release : ℕ
   pub mine : ℕ → ℕ
+  pub found : ℕ → ℕ
 
 -- after 65535 comes 0
 abbrev pub up : ℕ → ℕ
@@ -20,7 +21,7 @@ up n = (n + 1) % (mostTicket + 1)
 -- 1: fetch-and-increment the request counter
 abbrev pub asks : Settings → State → ℕ → Step State
 asks s x i = record {
-  memory = record { request = up (x .request); release = x .release; mine = upd (x .mine) i (x .request) };
+  memory = record { request = up (x .request); release = x .release; mine = upd (x .mine) i (x .request); found = x .found };
   access = atomics (s .home) 0;
   says = one join;
   then = to 2;
@@ -31,11 +32,20 @@ abbrev pub waits : Bool → Settings → State → Step State
 waits true s x = record { memory = x; access = reads (s .home) 1; says = one grant; then = to 3 }
 waits false s x = record { memory = x; access = reads (s .home) 1; says = nothing; then = stay }
 
--- 3: add one to the release counter
-abbrev pub frees : Settings → State → Step State
-frees s x = record {
-  memory = record { request = x .request; release = up (x .release); mine = x .mine };
-  access = atomics (s .home) 1;
+-- 3: read the release counter, to add one to it
+abbrev pub finds : Settings → State → ℕ → Step State
+finds s x i = record {
+  memory = record { request = x .request; release = x .release; mine = x .mine; found = upd (x .found) i (x .release) };
+  access = reads (s .home) 1;
+  says = nothing;
+  then = to 4;
+}
+
+-- 4: write the release counter, one higher than it was found
+abbrev pub frees : Settings → State → ℕ → Step State
+frees s x i = record {
+  memory = record { request = x .request; release = up (x .found i); mine = x .mine; found = x .found };
+  access = writes (s .home) 1;
   says = one release;
   then = over;
 }
@@ -44,10 +54,11 @@ unfoldable pub step : Settings → State → ℕ → ℕ → Step State
 step s x at i =
     pick (eqb at 1) (asks s x i) (
     pick (eqb at 2) (waits (eqb (x .release) (x .mine i)) s x) (
-    frees s x))
+    pick (eqb at 3) (finds s x i) (
+    frees s x i)))
 
 abbrev pub start : Settings → State
-start s = record { request = s .ticket; release = s .ticket; mine = each 0 }
+start s = record { request = s .ticket; release = s .ticket; mine = each 0; found = each 0 }
 
 abbrev pub machine : Machine
 machine = record { State = State; start = start; step = step }
