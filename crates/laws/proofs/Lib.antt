@@ -7,6 +7,7 @@ pub mod McsLine
 pub mod McsTurns
 pub mod TicketTurns
 pub mod Lines
+pub mod Counters
 pub mod Costs
 pub mod McsCost
 pub mod Prices

@@ -109,7 +109,7 @@ move-first f n frees h = absurd (zero-suc (ap length (sym (h .1))))
 
 -- ---- events
 
-of-append : (k : Kind) (a b : List Event) → of k (a ++ b) ≡ of k a ++ of k b
+pub of-append : (k : Kind) (a b : List Event) → of k (a ++ b) ≡ of k a ++ of k b
 of-append k [] b = refl
 of-append k (e ∷ a) b = rw (of-append k a b) (test (eqb (number k) (number (e .kind))) (e .who) (of k a) (of k b))
   where
@@ -225,17 +225,27 @@ module _ (m : Machine) (s : Settings) (k : Lock m s) where
       by-after m s r i (Later i r w) (w, λ f n h. h) (record { q = w .q; g = w .g; line = w .line }, λ f n h. h)
       (λ _. let n = one-turn (r .memory) (r .course) (r .events) i (w .q) (w .g) b (w .line) in (record { q = n .q′; g = n .g′; line = n .line }, n .still))
 
-  good-play : (t : List ℕ) (r : Run (m .State)) → Below (s .procs) t → Good r → Good (play m s t r)
+  -- what holds of a run that has a line, and is kept by every turn, holds of it played on
+  good-play : (P : Run (m .State) → Type 0) → ((r : Run (m .State)) (i : ℕ) → i < s .procs → Good r → P r → P (after m s r i))
+      → (t : List ℕ) (r : Run (m .State)) → Below (s .procs) t → Good r → P r → Good (play m s t r) × P (play m s t r)
   unfolding play
-  good-play [] r b w = w
-  good-play (i ∷ t) r b w = good-play t (after m s r i) (b .1) (later r i (b .0) w .0)
+  good-play P f [] r b w h = (w, h)
+  good-play P f (i ∷ t) r b w h = good-play P f t (after m s r i) (b .1) (later r i (b .0) w .0) (f r i (b .0) w h)
+
+  -- at first the line is empty
+  good-first : Good (first m s)
+  good-first = record { q = []; g = []; line = record { inv = k .start; holder = nobody; joined = refl; granted = refl; held = λ j. inl refl } }
 
   -- every run has a line
   pub good : (t : List ℕ) → allBelow (s .procs) t ≡ true → Good (whole m s t)
   unfolding whole
-  good t b =
-      good-play t (first m s) (below (s .procs) t b)
-      (record { q = []; g = []; line = record { inv = k .start; holder = nobody; joined = refl; granted = refl; held = λ j. inl refl } })
+  good t b = good-play (λ r. Unit {0}) (λ r i l w h. tt) t (first m s) (below (s .procs) t b) good-first tt .0
+
+  -- what holds at first and is kept by every turn of a run that has a line holds of every run
+  pub by-good : (P : Run (m .State) → Type 0) → ((r : Run (m .State)) (i : ℕ) → i < s .procs → Good r → P r → P (after m s r i)) → P (first m s)
+      → (t : List ℕ) → allBelow (s .procs) t ≡ true → P (whole m s t)
+  unfolding whole
+  by-good P f h t b = good-play P f t (first m s) (below (s .procs) t b) good-first h .1
 
   -- a run where nobody holds and f is the first in line
   abbrev Ready : ℕ → Run (m .State) → Type 0

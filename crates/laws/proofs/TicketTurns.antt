@@ -12,11 +12,11 @@ use lib.ListN.{length}
 use Rattle.rules.specs.Memory.{pick, upd}
 use Rattle.rules.specs.Bounds.{mostTicket}
 use Rattle.rules.specs.Settings.{Settings}
-use Rattle.rules.specs.Step.{grant, one, Step}
+use Rattle.rules.specs.Step.{grant, release, one, said, Step}
 use Rattle.rules.specs.Ticket.{State, up, asks, waits, finds, frees, step, machine}
 use Rattle.rules.proofs.Store.{upd-same, upd-other, zero-suc, either}
 use Rattle.rules.proofs.Accepted.{Below}
-use Rattle.laws.specs.Laws.{Without, Within}
+use Rattle.laws.specs.Laws.{of, Without, Within}
 use Rattle.laws.proofs.Lists.{Mem, NoDup, Place, outside, first, behind, find, without-init, nodup-snoc, pigeon, below-snoc}
 use Rattle.laws.proofs.Locks as locks
 use Rattle.laws.proofs.Locks.{joins, gets, After, resting, Enters, no-hold, into}
@@ -230,6 +230,29 @@ module _ (s : Settings) (small : s .procs ≤ mostTicket + 1) (x : State) (at : 
       go q v (first {r = r}) = head-turn i r g v
       go q v (behind {a = a} {r = r} m) = wait-turn a i r g v m
 
+  -- the release counter goes up where a release is said, and nowhere else
+  raises : (i : ℕ) (q g : List ℕ) → Inv (s .procs) x at q g
+      → (let t : Step State = step s x (at i) i in t .memory .release ≡ (x .release + length (of release (said i (t .says)))) % wrap)
+  unfolding step
+  raises i q g v = go q v (find i q)
+    where
+      Raised : Step State → Type 0
+      Raised t = t .memory .release ≡ (x .release + length (of release (said i (t .says)))) % wrap
+
+      waiting : (b : Bool) → Raised (waits b s x)
+      waiting true = let e = v .now in omega arith
+      waiting false = let e = v .now in omega arith
+
+      go : (q : List ℕ) → (v : Inv (s .procs) x at q g) → Place i q → Raised (step s x (at i) i)
+      go q v (outside f) = let e = v .now in rw (v .out i f) (omega arith)
+      go q v (first {r = r}) = head (v .line .0)
+        where
+          head : Head at i g → Raised (step s x (at i) i)
+          head (h2 e z) = rw e (waiting (eqb (x .release) (x .mine i)))
+          head (h3 e z) = let y = v .now in rw e (omega arith)
+          head (h4 e z) = let y = v .kept i e in rw e (omega arith)
+      go q v (behind {a = a} {r = r} m) = rw (waits-at at i r (v .line .1) m) (waiting (eqb (x .release) (x .mine i)))
+
   -- the first of the line, where nobody holds
   first-waits : (f : ℕ) (r : List ℕ) → Inv (s .procs) x at (f ∷ r) [] → (at f ≢ 1) × (at f ≢ 3) × (step s x (at f) f .says ≡ one grant)
   unfolding step
@@ -267,11 +290,26 @@ requested : (mine : ℕ → ℕ) (request n : ℕ) (q : List ℕ) → Tickets mi
 requested mine request n [] t = t ∙ omega arith
 requested mine request n (a ∷ q) t = requested mine request (suc n) q (t .1) ∙ omega arith
 
--- and that is at most the number of processors
-pub within : (s : Settings) (small : s .procs ≤ mostTicket + 1) (t : s .ticket ≤ mostTicket) (x : State) (at : ℕ → ℕ) (q g : List ℕ)
-    → ticket s small t .Inv x at q g → Within (s .procs) x
-unfolding ticket
-within s small t x at q g v =
-    let e = requested (x .mine) (x .request) (v .n) q (v .tickets) in
-    let r = v .now in
-    record { distance = length q; at-most = pigeon (s .procs) q (v .nodup) (v .below); apart = omega arith }
+-- what the line says of the counters
+module _ (s : Settings) (small : s .procs ≤ mostTicket + 1) (t : s .ticket ≤ mostTicket) (x : State) (at : ℕ → ℕ) (q g : List ℕ)
+    (v : ticket s small t .Inv x at q g) where
+  pub apart : x .request ≡ (x .release + length q) % wrap
+  unfolding ticket
+  apart =
+      let e = requested (x .mine) (x .request) (v .n) q (v .tickets) in
+      let r = v .now in
+      omega arith
+
+  -- the line is no longer than there are processors
+  pub within : Within (s .procs) x
+  unfolding ticket
+  within = record { distance = length q; at-most = pigeon (s .procs) q (v .nodup) (v .below); apart = apart }
+
+  -- who is at step 4 has found what stands there
+  pub undisturbed : (i : ℕ) → at i ≡ 4 → x .found i ≡ x .release
+  unfolding ticket
+  undisturbed = v .kept
+
+  pub raised : (i : ℕ) → (let t : Step State = step s x (at i) i in t .memory .release ≡ (x .release + length (of release (said i (t .says)))) % wrap)
+  unfolding ticket
+  raised i = raises s small x at i q g v

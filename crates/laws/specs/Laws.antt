@@ -105,6 +105,14 @@ pub record Within (far : ℕ) (x : ticket.State) : Type 0 where
   pub at-most : distance ≤ far
   pub apart : x .request ≡ (x .release + distance) % (mostTicket + 1)
 
+-- the ticket lock's counters, from the first ticket on. Processor i is between the read and the write of its release where its next step is step 4
+pub record Counters (first : ℕ) (r : Run ticket.State) : Type 0 where
+  -- no other write comes between: what i found still stands there
+  pub undisturbed : (i : ℕ) → r .course .at i ≡ 4 → r .memory .found i ≡ r .memory .release
+  -- so no release is lost: the one counter counts the joins and the other the releases, modulo 65536
+  pub requests : r .memory .request ≡ (first + length (of join (r .events))) % (mostTicket + 1)
+  pub releases : r .memory .release ≡ (first + length (of release (r .events))) % (mostTicket + 1)
+
 -- who comes next after k grants is f: f had the next grant, or there was none yet and f is the first in line
 pub data ComesNext (k f : ℕ) (es : List Event) : Type 0 where
   was-granted : (a b : List ℕ) → length a ≡ k → of grant es ≡ a ++ f ∷ b → ComesNext k f es
@@ -334,6 +342,9 @@ pub record Laws : Type 1 where
   -- the ticket lock's counters are at most P apart
   pub distance : (s : Settings) (t : List ℕ) → s .procs ≤ mostTicket + 1 → s .ticket ≤ mostTicket → allBelow (s .procs) t ≡ true
       → Within (s .procs) (whole ticket.machine s t .memory)
+  -- and count the joins and the releases
+  pub counters : (s : Settings) (t : List ℕ) → s .procs ≤ mostTicket + 1 → s .ticket ≤ mostTicket → allBelow (s .procs) t ≡ true
+      → Counters (s .ticket) (whole ticket.machine s t)
   -- two lock runs, the joins of the one a beginning of the other's, never disagree on who comes next
   pub agree : (m n : Machine) (s w : Settings) (t u : List ℕ) → LockRun m s t → LockRun n w u
       → Prefix (of join (whole m s t .events)) (of join (whole n w u .events))

@@ -4,27 +4,32 @@ use mathlib.Core.Bool.{true, false}
 use mathlib.Core.List.{[], _∷_}
 use Prim.Native.Nat.{ℕ, _+_}
 use borrow.Author.Tests.{eq-eqb, ne-eqb}
-use lib.Dec.{eqb}
 use Rattle.rules.specs.Memory.{upd}
 use Rattle.rules.specs.Settings.{Settings}
 use Rattle.rules.specs.Step.{remote}
 use Rattle.rules.specs.Course.{Course}
-use Rattle.rules.specs.Ticket.{State, up, asks, waits, frees, step, machine}
+use Rattle.rules.specs.Ticket.{State, up, asks, waits, finds, frees, step, machine}
 use Rattle.rules.proofs.Turned.{Told}
 use Rattle.turns.specs.declared.course.Due.{Due}
 use Rattle.turns.specs.declared.course.Due.the-variants as due
 use Rattle.turns.specs.View.{goneTo, ended, Dues, Turns}
 use Rattle.turns.proofs.Turning.{touching, turns-stay, turns-to, turns-grant, turns-over}
 
-pub same-state : (a b : State) → a .request ≡ b .request → a .release ≡ b .release → a .mine ≡ b .mine → a ≡ b
-same-state a b p q r = λ j. record { request = p j; release = q j; mine = r j }
+pub same-state : (a b : State) → a .request ≡ b .request → a .release ≡ b .release → a .mine ≡ b .mine → a .found ≡ b .found → a ≡ b
+same-state a b p q r t = λ j. record { request = p j; release = q j; mine = r j; found = t j }
+
+-- the step is the last
+pub record Last (k : ℕ) : Type 0 where
+  pub not1 : k ≡ 1 → ⊥
+  pub not2 : k ≡ 2 → ⊥
+  pub not3 : k ≡ 3 → ⊥
 
 abbrev At : ℕ → Settings → Type 0
 At home s = s .home ≡ home
 
 module _ (w home rounds hold : ℕ) (x : State) (c : Course) (what : Due) (e : Dues c w rounds what) (k : ℕ) (f : what ≡ due.Step k)
     (x′ : State) (c′ : Course) (d : Told) where
-  pub ticket-asks : k ≡ 1 → x′ ≡ record { request = up (x .request); release = x .release; mine = upd (x .mine) w (x .request) }
+  pub ticket-asks : k ≡ 1 → x′ ≡ record { request = up (x .request); release = x .release; mine = upd (x .mine) w (x .request); found = x .found }
       → c′ ≡ goneTo c w 2 0 → d ≡ touching w home ((256 + w) ∷ []) true false false
       → Turns machine (At home) w rounds hold x c x′ c′ d
   unfolding step remote
@@ -47,10 +52,19 @@ module _ (w home rounds hold : ℕ) (x : State) (c : Course) (what : Due) (e : D
       turns-stay machine (At home) w rounds hold x c what e x′ c′ d k f (λ s. waits false s x) (λ s p. rw (z, ne-eqb _ _ t) refl) (λ s p. a)
       (λ s p. rw (z, p) g) (λ s. refl) (λ s. refl) b
 
-  pub ticket-frees : (k ≡ 1 → ⊥) → (k ≡ 2 → ⊥) → x′ ≡ record { request = x .request; release = up (x .release); mine = x .mine }
+  pub ticket-finds : k ≡ 3 → x′ ≡ record { request = x .request; release = x .release; mine = x .mine; found = upd (x .found) w (x .release) }
+      → c′ ≡ goneTo c w 4 0 → d ≡ touching w home [] false false false
+      → Turns machine (At home) w rounds hold x c x′ c′ d
+  unfolding step remote
+  ticket-finds z a b g =
+      turns-to machine (At home) w rounds hold x c what e x′ c′ d k f (λ s. finds s x w) (λ s p. rw z refl) (λ s p. a) (λ s p. rw (z, p) g) 4
+      (λ s. refl) (λ s. refl) b
+
+  pub ticket-frees : Last k → x′ ≡ record { request = x .request; release = up (x .found w); mine = x .mine; found = x .found }
       → c′ ≡ ended c w 0 → d ≡ touching w home ((768 + w) ∷ []) false true false
       → Turns machine (At home) w rounds hold x c x′ c′ d
   unfolding step remote
-  ticket-frees y z a b g =
-      turns-over machine (At home) w rounds hold x c what e x′ c′ d k f (λ s. frees s x) (λ s p. rw (ne-eqb _ _ y, ne-eqb _ _ z) refl) (λ s p. a)
-      (λ s p. rw (ne-eqb _ _ y, p) g) (λ s. refl) (λ s. refl) b
+  ticket-frees y a b g =
+      turns-over machine (At home) w rounds hold x c what e x′ c′ d k f (λ s. frees s x w)
+      (λ s p. rw (ne-eqb _ _ (y .not1), ne-eqb _ _ (y .not2), ne-eqb _ _ (y .not3)) refl)
+      (λ s p. a) (λ s p. rw (ne-eqb _ _ (y .not1), p) g) (λ s. refl) (λ s. refl) b

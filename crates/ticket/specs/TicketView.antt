@@ -7,7 +7,7 @@ use Rattle.ticket.specs.declared.lock.Ticket.{Ticket}
 use Rattle.turns.specs.View.{courseOf}
 
 abbrev pub lockOf : Lock → State
-lockOf l = record { request = l .request; release = l .release; mine = view 0 (l .mine) }
+lockOf l = record { request = l .request; release = l .release; mine = view 0 (l .mine); found = view 0 (l .found) }
 
 abbrev pub stateOf : Ticket → State
 stateOf t = lockOf (t .lock)

@@ -10,9 +10,10 @@ ghost use Rattle.rules.specs.Ticket.{machine, up};
 ghost use Rattle.turns.specs.View.{toldOf, Starts, Turns};
 ghost use Rattle.ticket.specs.TicketView.{lockOf, stateOf, courseIn};
 
-// Both counters, and each processor's own ticket.
+// Both counters, and what each processor keeps for itself: its ticket, and what it found in the release counter.
 pub(crate) struct Lock {
     mine: [u16; 64],
+    found: [u16; 64],
     request: u16,
     release: u16,
 }
@@ -27,27 +28,48 @@ impl Lock {
     // Processor i takes the next ticket. After 65535 comes 0.
     fn asks(self, i: usize) -> Lock
         requires { ⌜ i < 64 ⌝ }
-        ensures { λ r. ⌜ lockOf r ≡ record { request = up (self .request); release = self .release; mine = upd (lockOf self .mine) i (self .request) } ⌝ }
+        ensures { λ r. ⌜ lockOf r ≡ record { request = up (self .request); release = self .release; mine = upd (lockOf self .mine) i (self .request); found = lockOf self .found } ⌝ }
     {
         let request = self.request;
         let mut mine = self.mine;
         mine[i] = request;
+        let found = self.found;
         Lock {
             mine,
+            found,
             request: std::num::wrapping_add_u16(request, 1),
             release: self.release,
         }
     }
 
-    // The next ticket is served.
-    fn frees(self) -> Lock
-        ensures { λ r. ⌜ lockOf r ≡ record { request = self .request; release = up (self .release); mine = lockOf self .mine } ⌝ }
+    // Processor i reads the release counter.
+    fn finds(self, i: usize) -> Lock
+        requires { ⌜ i < 64 ⌝ }
+        ensures { λ r. ⌜ lockOf r ≡ record { request = self .request; release = self .release; mine = lockOf self .mine; found = upd (lockOf self .found) i (self .release) } ⌝ }
     {
         let mine = self.mine;
+        let mut found = self.found;
+        found[i] = self.release;
         Lock {
             mine,
+            found,
             request: self.request,
-            release: std::num::wrapping_add_u16(self.release, 1),
+            release: self.release,
+        }
+    }
+
+    // Processor i writes the release counter, one higher than it found it: the next ticket is served. After 65535 comes 0.
+    fn frees(self, i: usize) -> Lock
+        requires { ⌜ i < 64 ⌝ }
+        ensures { λ r. ⌜ lockOf r ≡ record { request = self .request; release = up (lockOf self .found i); mine = lockOf self .mine; found = lockOf self .found } ⌝ }
+    {
+        let mine = self.mine;
+        let found = self.found;
+        Lock {
+            mine,
+            found,
+            request: self.request,
+            release: std::num::wrapping_add_u16(found[i], 1),
         }
     }
 }
@@ -58,6 +80,7 @@ impl Ticket {
     {
         let lock = Lock {
             mine: [0; 64],
+            found: [0; 64],
             request: ticket,
             release: ticket,
         };
@@ -118,9 +141,16 @@ impl Ticket {
                     made: made::spin(home),
                 };
             }
+            3 => {
+                return Ticket {
+                    lock: lock.finds(i),
+                    course: course.goes(i, 4),
+                    made: made::later(home, 0, 0),
+                };
+            }
             _ => {
                 return Ticket {
-                    lock: lock.frees(),
+                    lock: lock.frees(i),
                     course: course.over(i),
                     made: made::last(home, made::RELEASE),
                 };

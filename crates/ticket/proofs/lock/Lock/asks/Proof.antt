@@ -10,7 +10,7 @@ returns : tie.Need-returns
 returns c =
     let z : tie.Start = search needs in
     let p : Place (z .args .self .mine) (z .args .i) = search needs in
-    same-state _ _ (search needs) refl (view-put 0 p refl)
+    same-state _ _ (search needs) refl (view-put 0 p refl) refl
 
 pub asks-spec : {M : Type 1} → statement M
 asks-spec =

@@ -9,7 +9,7 @@ use Rattle.ticket.proofs.lock.Ticket.start.Tie as tie
 returns : tie.Need-returns
 returns c =
     let k : tie.After-start = search needs in
-    record { memory = λ s p. same-state _ _ (sym p) (sym p) (view-blank 64 0); outset = k .start .ensures }
+    record { memory = λ s p. same-state _ _ (sym p) (sym p) (view-blank 64 0) (view-blank 64 0); outset = k .start .ensures }
 
 pub start-spec : {M : Type 1} → statement M
 start-spec =

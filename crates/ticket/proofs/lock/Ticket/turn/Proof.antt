@@ -6,9 +6,13 @@ use Rattle.rules.proofs.Views.{view}
 use Rattle.turns.specs.View.{toldOf}
 use Rattle.turns.proofs.Courses.{held-some}
 use Rattle.turns.proofs.Turning.{turns-hold, turns-idle, told-none}
-use Rattle.ticket.proofs.TicketTurns.{ticket-asks, ticket-granted, ticket-spins, ticket-frees}
+use Rattle.ticket.proofs.TicketTurns.{Last, ticket-asks, ticket-granted, ticket-spins, ticket-finds, ticket-frees}
 use Rattle.ticket.proofs.lock.Ticket.turn.Statement.{statement}
 use Rattle.ticket.proofs.lock.Ticket.turn.Tie as tie
+
+-- the default arm
+rest : (k : tie.At-match2-rest) → Last (k .before .before .due2 .given .0 .0)
+rest k = search needs
 
 held-requires : tie.Need-held-requires
 held-requires c κs =
@@ -59,10 +63,19 @@ returns-6 : tie.Need-returns-6
 returns-6 c =
     let d : tie.After-due = search needs in
     let a : tie.After-due2 = search needs in
+    let l : tie.After-finds = search needs in
+    let g : tie.After-goes2 = search needs in
+    let m : tie.After-later2 = search needs in
+    ticket-finds _ _ _ _ _ _ (d .due .result) (d .due .ensures) (a .due2 .given .0 .0) (a .due2 .given .1) _ _ _ (search needs) (l .finds .ensures) (g .goes2 .ensures) (ap (toldOf _) (m .later2 .ensures))
+
+returns-7 : tie.Need-returns-7
+returns-7 c =
+    let d : tie.After-due = search needs in
+    let a : tie.After-due2 = search needs in
     let l : tie.After-frees = search needs in
     let g : tie.After-over = search needs in
     let m : tie.After-last = search needs in
-    ticket-frees _ _ _ _ _ _ (d .due .result) (d .due .ensures) (a .due2 .given .0 .0) (a .due2 .given .1) _ _ _ (search needs) (search needs) (l .frees .ensures) (g .over .ensures) (ap (toldOf _) (m .last .ensures))
+    ticket-frees _ _ _ _ _ _ (d .due .result) (d .due .ensures) (a .due2 .given .0 .0) (a .due2 .given .1) _ _ _ (rest (search needs)) (l .frees .ensures) (g .over .ensures) (ap (toldOf _) (m .last .ensures))
 
 pub turn-spec : {M : Type 1} → statement M
 turn-spec =
@@ -73,4 +86,5 @@ turn-spec =
     (λ c. search needs) (λ c κs. search needs) (λ c κs. search needs) (λ c κs. search needs) returns-3
     (λ c. search needs) (λ c. search needs) (λ c κs. search needs) (λ c κs. search needs) returns-4
     (λ c κs. search needs) returns-5
-    (λ c κs. search needs) (λ c κs. search needs) (λ c κs. search needs) returns-6)
+    (λ c κs. search needs) (λ c κs. search needs) (λ c κs. search needs) returns-6
+    (λ c κs. search needs) (λ c κs. search needs) (λ c κs. search needs) returns-7)
