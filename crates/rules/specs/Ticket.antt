@@ -14,18 +14,29 @@ pub record State : Type 0 where
   pub mine : ℕ → ℕ
   pub found : ℕ → ℕ
 
+-- ---- one store
+
+abbrev pub setRequest : ℕ → State → State
+setRequest v x = record { request = v; release = x .release; mine = x .mine; found = x .found }
+
+abbrev pub setRelease : ℕ → State → State
+setRelease v x = record { request = x .request; release = v; mine = x .mine; found = x .found }
+
+abbrev pub setMine : ℕ → ℕ → State → State
+setMine i v x = record { request = x .request; release = x .release; mine = upd (x .mine) i v; found = x .found }
+
+abbrev pub setFound : ℕ → ℕ → State → State
+setFound i v x = record { request = x .request; release = x .release; mine = x .mine; found = upd (x .found) i v }
+
+-- ---- the steps
+
 -- after 65535 comes 0
 abbrev pub up : ℕ → ℕ
 up n = (n + 1) % (mostTicket + 1)
 
--- 1: fetch-and-increment the request counter
+-- 1: fetch-and-increment the request counter; the old value is the ticket
 abbrev pub asks : Settings → State → ℕ → Step State
-asks s x i = record {
-  memory = record { request = up (x .request); release = x .release; mine = upd (x .mine) i (x .request); found = x .found };
-  access = atomics (s .home) 0;
-  says = one join;
-  then = to 2;
-}
+asks s x i = record { memory = setMine i (x .request) (setRequest (up (x .request)) x); access = atomics (s .home) 0; says = one join; then = to 2 }
 
 -- 2: read the release counter; it equals the own ticket, or not
 abbrev pub waits : Bool → Settings → State → Step State
@@ -34,21 +45,11 @@ waits false s x = record { memory = x; access = reads (s .home) 1; says = nothin
 
 -- 3: read the release counter, to add one to it
 abbrev pub finds : Settings → State → ℕ → Step State
-finds s x i = record {
-  memory = record { request = x .request; release = x .release; mine = x .mine; found = upd (x .found) i (x .release) };
-  access = reads (s .home) 1;
-  says = nothing;
-  then = to 4;
-}
+finds s x i = record { memory = setFound i (x .release) x; access = reads (s .home) 1; says = nothing; then = to 4 }
 
 -- 4: write the release counter, one higher than it was found
 abbrev pub frees : Settings → State → ℕ → Step State
-frees s x i = record {
-  memory = record { request = x .request; release = up (x .found i); mine = x .mine; found = x .found };
-  access = writes (s .home) 1;
-  says = one release;
-  then = over;
-}
+frees s x i = record { memory = setRelease (up (x .found i)) x; access = writes (s .home) 1; says = one release; then = over }
 
 unfoldable pub step : Settings → State → ℕ → ℕ → Step State
 step s x at i =

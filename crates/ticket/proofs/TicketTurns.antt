@@ -4,11 +4,10 @@ use mathlib.Core.Bool.{true, false}
 use mathlib.Core.List.{[], _∷_}
 use Prim.Native.Nat.{ℕ, _+_}
 use borrow.Author.Tests.{eq-eqb, ne-eqb}
-use Rattle.rules.specs.Memory.{upd}
 use Rattle.rules.specs.Settings.{Settings}
 use Rattle.rules.specs.Step.{remote}
 use Rattle.rules.specs.Course.{Course}
-use Rattle.rules.specs.Ticket.{State, up, asks, waits, finds, frees, step, machine}
+use Rattle.rules.specs.Ticket.{State, up, setRequest, setRelease, setMine, setFound, asks, waits, finds, frees, step, machine}
 use Rattle.rules.proofs.Turned.{Told}
 use Rattle.turns.specs.declared.course.Due.{Due}
 use Rattle.turns.specs.declared.course.Due.the-variants as due
@@ -29,7 +28,7 @@ At home s = s .home ≡ home
 
 module _ (w home rounds hold : ℕ) (x : State) (c : Course) (what : Due) (e : Dues c w rounds what) (k : ℕ) (f : what ≡ due.Step k)
     (x′ : State) (c′ : Course) (d : Told) where
-  pub ticket-asks : k ≡ 1 → x′ ≡ record { request = up (x .request); release = x .release; mine = upd (x .mine) w (x .request); found = x .found }
+  pub ticket-asks : k ≡ 1 → x′ ≡ setMine w (x .request) (setRequest (up (x .request)) x)
       → c′ ≡ goneTo c w 2 0 → d ≡ touching w home ((256 + w) ∷ []) true false false
       → Turns machine (At home) w rounds hold x c x′ c′ d
   unfolding step remote
@@ -52,7 +51,7 @@ module _ (w home rounds hold : ℕ) (x : State) (c : Course) (what : Due) (e : D
       turns-stay machine (At home) w rounds hold x c what e x′ c′ d k f (λ s. waits false s x) (λ s p. rw (z, ne-eqb _ _ t) refl) (λ s p. a)
       (λ s p. rw (z, p) g) (λ s. refl) (λ s. refl) b
 
-  pub ticket-finds : k ≡ 3 → x′ ≡ record { request = x .request; release = x .release; mine = x .mine; found = upd (x .found) w (x .release) }
+  pub ticket-finds : k ≡ 3 → x′ ≡ setFound w (x .release) x
       → c′ ≡ goneTo c w 4 0 → d ≡ touching w home [] false false false
       → Turns machine (At home) w rounds hold x c x′ c′ d
   unfolding step remote
@@ -60,7 +59,7 @@ module _ (w home rounds hold : ℕ) (x : State) (c : Course) (what : Due) (e : D
       turns-to machine (At home) w rounds hold x c what e x′ c′ d k f (λ s. finds s x w) (λ s p. rw z refl) (λ s p. a) (λ s p. rw (z, p) g) 4
       (λ s. refl) (λ s. refl) b
 
-  pub ticket-frees : Last k → x′ ≡ record { request = x .request; release = up (x .found w); mine = x .mine; found = x .found }
+  pub ticket-frees : Last k → x′ ≡ setRelease (up (x .found w)) x
       → c′ ≡ ended c w 0 → d ≡ touching w home ((768 + w) ∷ []) false true false
       → Turns machine (At home) w rounds hold x c x′ c′ d
   unfolding step remote

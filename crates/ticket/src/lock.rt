@@ -5,8 +5,7 @@ use turns::Made;
 use turns::made;
 ghost use mathlib.Core.Path.{_≡_};
 ghost use Prim.Native.Nat.{_<_};
-ghost use Rattle.rules.specs.Memory.{upd};
-ghost use Rattle.rules.specs.Ticket.{machine, up};
+ghost use Rattle.rules.specs.Ticket.{machine, up, setRequest, setRelease, setMine, setFound};
 ghost use Rattle.turns.specs.View.{toldOf, Starts, Turns};
 ghost use Rattle.ticket.specs.TicketView.{lockOf, stateOf, courseIn};
 
@@ -28,7 +27,7 @@ impl Lock {
     // Processor i takes the next ticket. After 65535 comes 0.
     fn asks(self, i: usize) -> Lock
         requires { ⌜ i < 64 ⌝ }
-        ensures { λ r. ⌜ lockOf r ≡ record { request = up (self .request); release = self .release; mine = upd (lockOf self .mine) i (self .request); found = lockOf self .found } ⌝ }
+        ensures { λ r. ⌜ lockOf r ≡ setMine i (self .request) (setRequest (up (self .request)) (lockOf self)) ⌝ }
     {
         let request = self.request;
         let mut mine = self.mine;
@@ -45,7 +44,7 @@ impl Lock {
     // Processor i reads the release counter.
     fn finds(self, i: usize) -> Lock
         requires { ⌜ i < 64 ⌝ }
-        ensures { λ r. ⌜ lockOf r ≡ record { request = self .request; release = self .release; mine = lockOf self .mine; found = upd (lockOf self .found) i (self .release) } ⌝ }
+        ensures { λ r. ⌜ lockOf r ≡ setFound i (self .release) (lockOf self) ⌝ }
     {
         let mine = self.mine;
         let mut found = self.found;
@@ -61,7 +60,7 @@ impl Lock {
     // Processor i writes the release counter, one higher than it found it: the next ticket is served. After 65535 comes 0.
     fn frees(self, i: usize) -> Lock
         requires { ⌜ i < 64 ⌝ }
-        ensures { λ r. ⌜ lockOf r ≡ record { request = self .request; release = up (lockOf self .found i); mine = lockOf self .mine; found = lockOf self .found } ⌝ }
+        ensures { λ r. ⌜ lockOf r ≡ setRelease (up (lockOf self .found i)) (lockOf self) ⌝ }
     {
         let mine = self.mine;
         let found = self.found;
