@@ -1,4 +1,4 @@
--- The eleven cases that document 01 marks, as one list; and cases of document 02's requests, as another.
+-- The eleven cases that document 01 marks, as one list, the ticket lock's as document 02 has it; and cases of document 02's requests, as another.
 use Prim.Native.Nat.{ℕ}
 use Prim.Native.String.{String}
 use mathlib.Core.Path.{_≡_, refl}

@@ -116,13 +116,21 @@ impl Ticket {
             }
             Due::Step(step) => step,
         };
-        // Every arm returns: the state is then copied nowhere.
+        // Every arm returns: the state is then copied nowhere. Step 2, where processors wait, stands behind 3: so the compiler leaves out
+        // the copies of what a spin hands on.
         match step {
             1 => {
                 return Ticket {
                     lock: lock.asks(i),
                     course: course.goes(i, 2),
                     made: made::first(home, made::JOIN),
+                };
+            }
+            3 => {
+                return Ticket {
+                    lock: lock.finds(i),
+                    course: course.goes(i, 4),
+                    made: made::later(home, 0, 0),
                 };
             }
             2 => {
@@ -138,13 +146,6 @@ impl Ticket {
                     lock,
                     course,
                     made: made::spin(home),
-                };
-            }
-            3 => {
-                return Ticket {
-                    lock: lock.finds(i),
-                    course: course.goes(i, 4),
-                    made: made::later(home, 0, 0),
                 };
             }
             _ => {

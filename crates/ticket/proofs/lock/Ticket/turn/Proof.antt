@@ -42,31 +42,31 @@ returns-3 c =
     ticket-asks _ _ _ _ _ _ (d .due .result) (d .due .ensures) (a .due2 .given .0 .0) (a .due2 .given .1) _ _ _ (search needs) (l .asks .ensures) (g .goes .ensures) (ap (toldOf _) (m .first .ensures))
 
 returns-4 : tie.Need-returns-4
-unfolding view
 returns-4 c =
     let d : tie.After-due = search needs in
     let a : tie.After-due2 = search needs in
-    let b : tie.At-match2-keys2 = search needs in
-    let g : tie.After-granted = search needs in
+    let l : tie.After-finds = search needs in
+    let g : tie.After-goes2 = search needs in
     let m : tie.After-later = search needs in
-    ticket-granted _ _ _ _ _ _ (d .due .result) (d .due .ensures) (a .due2 .given .0 .0) (a .due2 .given .1) _ _ _ (search needs) (search needs) refl (g .granted .ensures) (ap (toldOf _) (m .later .ensures))
+    ticket-finds _ _ _ _ _ _ (d .due .result) (d .due .ensures) (a .due2 .given .0 .0) (a .due2 .given .1) _ _ _ (search needs) (l .finds .ensures) (g .goes2 .ensures) (ap (toldOf _) (m .later .ensures))
 
 returns-5 : tie.Need-returns-5
 unfolding view
 returns-5 c =
     let d : tie.After-due = search needs in
     let a : tie.After-due2 = search needs in
-    let m : tie.After-spin = search needs in
-    ticket-spins _ _ _ _ _ _ (d .due .result) (d .due .ensures) (a .due2 .given .0 .0) (a .due2 .given .1) _ _ _ (search needs) (search needs) refl refl (ap (toldOf _) (m .spin .ensures))
+    let b : tie.At-match2-keys3 = search needs in
+    let g : tie.After-granted = search needs in
+    let m : tie.After-later2 = search needs in
+    ticket-granted _ _ _ _ _ _ (d .due .result) (d .due .ensures) (a .due2 .given .0 .0) (a .due2 .given .1) _ _ _ (search needs) (search needs) refl (g .granted .ensures) (ap (toldOf _) (m .later2 .ensures))
 
 returns-6 : tie.Need-returns-6
+unfolding view
 returns-6 c =
     let d : tie.After-due = search needs in
     let a : tie.After-due2 = search needs in
-    let l : tie.After-finds = search needs in
-    let g : tie.After-goes2 = search needs in
-    let m : tie.After-later2 = search needs in
-    ticket-finds _ _ _ _ _ _ (d .due .result) (d .due .ensures) (a .due2 .given .0 .0) (a .due2 .given .1) _ _ _ (search needs) (l .finds .ensures) (g .goes2 .ensures) (ap (toldOf _) (m .later2 .ensures))
+    let m : tie.After-spin = search needs in
+    ticket-spins _ _ _ _ _ _ (d .due .result) (d .due .ensures) (a .due2 .given .0 .0) (a .due2 .given .1) _ _ _ (search needs) (search needs) refl refl (ap (toldOf _) (m .spin .ensures))
 
 returns-7 : tie.Need-returns-7
 returns-7 c =
@@ -84,7 +84,7 @@ turn-spec =
     (λ c κs. search needs) returns
     (λ c. search needs) (λ c κs. search needs) returns-2
     (λ c. search needs) (λ c κs. search needs) (λ c κs. search needs) (λ c κs. search needs) returns-3
-    (λ c. search needs) (λ c. search needs) (λ c κs. search needs) (λ c κs. search needs) returns-4
-    (λ c κs. search needs) returns-5
-    (λ c κs. search needs) (λ c κs. search needs) (λ c κs. search needs) returns-6
+    (λ c κs. search needs) (λ c κs. search needs) (λ c κs. search needs) returns-4
+    (λ c. search needs) (λ c. search needs) (λ c κs. search needs) (λ c κs. search needs) returns-5
+    (λ c κs. search needs) returns-6
     (λ c κs. search needs) (λ c κs. search needs) (λ c κs. search needs) returns-7)
