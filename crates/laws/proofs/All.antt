@@ -7,7 +7,7 @@ use Rattle.laws.proofs.Beginnings as beginnings
 use Rattle.laws.proofs.Totals.{total-counted, total-summed}
 use Rattle.laws.proofs.Courses.{courses}
 use Rattle.laws.proofs.Lines as lines
-use Rattle.laws.proofs.Counters.{counters}
+use Rattle.laws.proofs.Counters.{counters, trace}
 use Rattle.laws.proofs.McsCost.{four, four-reached}
 use Rattle.laws.proofs.TreeCost.{tree-price, episode-reached}
 use Rattle.laws.proofs.Refusals as refusals
@@ -32,6 +32,7 @@ all-laws = record {
   line = record { locks = lines.line; accepted = lines.line-accepted; files = files.line-file };
   distance = lines.distance;
   counters = λ s t small first. counters s small first t;
+  trace = trace;
   agree = lines.agree;
   four = four;
   tree-price = tree-price;

@@ -9,7 +9,7 @@ use lib.ListN.{length, take, replicate}
 use Rattle.rules.specs.Memory.{pick}
 use Rattle.rules.specs.Bounds.{mostProcs, mostTicket, mostBudget, mostRounds, mostHold, mostTurns, mostDigits, longestFile}
 use Rattle.rules.specs.Settings.{Settings, entry, noSettings}
-use Rattle.rules.specs.Step.{Access, remote, Kind, number, join, grant, release, leave, Event, event, said, Machine}
+use Rattle.rules.specs.Step.{Access, reads, writes, atomics, remote, Kind, number, join, grant, release, leave, Event, event, said, Machine}
 use Rattle.rules.specs.Course.{holds, says}
 use Rattle.rules.specs.Tally.{access}
 use Rattle.rules.specs.Play.{Run, first, next, after, play, whole}
@@ -204,6 +204,17 @@ threeBoards = record { algo = 2; procs = 3; home = 0; ticket = 0; budget = 16384
 abbrev pub fourTurns : List ℕ
 fourTurns = 1 ∷ 1 ∷ 2 ∷ 2 ∷ 2 ∷ 2 ∷ 1 ∷ 1 ∷ 2 ∷ 2 ∷ 0 ∷ 0 ∷ 2 ∷ 0 ∷ 0 ∷ 2 ∷ 2 ∷ []
 
+-- the ticket lock's marked case: what each of its turns touches, as a bus trace shows it. Variable 0 is the request counter, 1 the release counter
+abbrev pub twoBoards : Settings
+twoBoards = record { algo = 1; procs = 2; home = 0; ticket = 65535; budget = 16384; rounds = 1 ∷ 1 ∷ []; hold = [] }
+
+abbrev pub nineTurns : List ℕ
+nineTurns = 0 ∷ 1 ∷ 1 ∷ 0 ∷ 0 ∷ 0 ∷ 1 ∷ 1 ∷ 1 ∷ []
+
+abbrev pub nineAccesses : List (ℕ × Access)
+nineAccesses =
+    (0, atomics 0 0) ∷ (1, atomics 0 0) ∷ (1, reads 0 1) ∷ (0, reads 0 1) ∷ (0, reads 0 1) ∷ (0, writes 0 1) ∷ (1, reads 0 1) ∷ (1, reads 0 1) ∷ (1, writes 0 1) ∷ []
+
 -- what processor i pays for a passage of the tree barrier: it tells its parent, if it has one, and wakes its children below procs
 abbrev pub treePrice : (procs i : ℕ) → ℕ
 treePrice procs i = pick (eqb i 0) 0 1 + pick (ltb (2 * i + 1) procs) 1 0 + pick (ltb (2 * i + 2) procs) 1 0
@@ -345,6 +356,8 @@ pub record Laws : Type 1 where
   -- and count the joins and the releases
   pub counters : (s : Settings) (t : List ℕ) → s .procs ≤ mostTicket + 1 → s .ticket ≤ mostTicket → allBelow (s .procs) t ≡ true
       → Counters (s .ticket) (whole ticket.machine s t)
+  -- who touches what in which manner, in the ticket lock's marked case
+  pub trace : accesses ticket.machine twoBoards nineTurns (first ticket.machine twoBoards) ≡ nineAccesses
   -- two lock runs, the joins of the one a beginning of the other's, never disagree on who comes next
   pub agree : (m n : Machine) (s w : Settings) (t u : List ℕ) → LockRun m s t → LockRun n w u
       → Prefix (of join (whole m s t .events)) (of join (whole n w u .events))
