@@ -78,7 +78,7 @@ head-keep at i k a g n (h2 e z) = h2 (upd-other at i k a n ∙ e) z
 head-keep at i k a g n (h3 e z) = h3 (upd-other at i k a n ∙ e) z
 head-keep at i k a g n (h4 e z) = h4 (upd-other at i k a n ∙ e) z
 
--- who is at step 4 was there before another step came up
+-- who is at step 4 after i has gone to another step was there before
 at-4 : (at : ℕ → ℕ) (i k j : ℕ) → k ≢ 4 → upd at i k j ≡ 4 → at j ≡ 4
 at-4 at i k j n e = go (ℕ-discrete j i)
   where
@@ -104,6 +104,10 @@ ticket-of mine request n i (b ∷ r) t (inr m) =
     let w = ticket-of mine request (suc n) i r (t .1) m in
     (suc (w .0), omega (arith, w .1), omega (arith, w .2))
 ticket-of mine request n i [] t m = absurd m
+
+-- the release counter goes up where a release is said, and nowhere else
+abbrev pub Raised : State → ℕ → Step State → Type 0
+Raised x i t = t .memory .release ≡ (x .release + length (of release (said i (t .says)))) % wrap
 
 -- ---- a turn
 
@@ -230,24 +234,19 @@ module _ (s : Settings) (small : s .procs ≤ mostTicket + 1) (x : State) (at : 
       go q v (first {r = r}) = head-turn i r g v
       go q v (behind {a = a} {r = r} m) = wait-turn a i r g v m
 
-  -- the release counter goes up where a release is said, and nowhere else
-  raises : (i : ℕ) (q g : List ℕ) → Inv (s .procs) x at q g
-      → (let t : Step State = step s x (at i) i in t .memory .release ≡ (x .release + length (of release (said i (t .says)))) % wrap)
+  raises : (i : ℕ) (q g : List ℕ) → Inv (s .procs) x at q g → Raised x i (step s x (at i) i)
   unfolding step
   raises i q g v = go q v (find i q)
     where
-      Raised : Step State → Type 0
-      Raised t = t .memory .release ≡ (x .release + length (of release (said i (t .says)))) % wrap
-
-      waiting : (b : Bool) → Raised (waits b s x)
+      waiting : (b : Bool) → Raised x i (waits b s x)
       waiting true = let e = v .now in omega arith
       waiting false = let e = v .now in omega arith
 
-      go : (q : List ℕ) → (v : Inv (s .procs) x at q g) → Place i q → Raised (step s x (at i) i)
+      go : (q : List ℕ) → (v : Inv (s .procs) x at q g) → Place i q → Raised x i (step s x (at i) i)
       go q v (outside f) = let e = v .now in rw (v .out i f) (omega arith)
       go q v (first {r = r}) = head (v .line .0)
         where
-          head : Head at i g → Raised (step s x (at i) i)
+          head : Head at i g → Raised x i (step s x (at i) i)
           head (h2 e z) = rw e (waiting (eqb (x .release) (x .mine i)))
           head (h3 e z) = let y = v .now in rw e (omega arith)
           head (h4 e z) = let y = v .kept i e in rw e (omega arith)
@@ -310,6 +309,6 @@ module _ (s : Settings) (small : s .procs ≤ mostTicket + 1) (t : s .ticket ≤
   unfolding ticket
   undisturbed = v .kept
 
-  pub raised : (i : ℕ) → (let t : Step State = step s x (at i) i in t .memory .release ≡ (x .release + length (of release (said i (t .says)))) % wrap)
+  pub raised : (i : ℕ) → Raised x i (step s x (at i) i)
   unfolding ticket
   raised i = raises s small x at i q g v
