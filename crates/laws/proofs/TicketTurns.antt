@@ -105,10 +105,6 @@ ticket-of mine request n i (b ∷ r) t (inr m) =
     (suc (w .0), omega (arith, w .1), omega (arith, w .2))
 ticket-of mine request n i [] t m = absurd m
 
--- the release counter goes up where a release is said, and nowhere else
-abbrev pub Raised : State → ℕ → Step State → Type 0
-Raised x i t = t .memory .release ≡ (x .release + length (of release (said i (t .says)))) % wrap
-
 -- ---- a turn
 
 module _ (s : Settings) (small : s .procs ≤ mostTicket + 1) (x : State) (at : ℕ → ℕ) where
@@ -234,24 +230,6 @@ module _ (s : Settings) (small : s .procs ≤ mostTicket + 1) (x : State) (at : 
       go q v (first {r = r}) = head-turn i r g v
       go q v (behind {a = a} {r = r} m) = wait-turn a i r g v m
 
-  raises : (i : ℕ) (q g : List ℕ) → Inv (s .procs) x at q g → Raised x i (step s x (at i) i)
-  unfolding step
-  raises i q g v = go q v (find i q)
-    where
-      waiting : (b : Bool) → Raised x i (waits b s x)
-      waiting true = let e = v .now in omega arith
-      waiting false = let e = v .now in omega arith
-
-      go : (q : List ℕ) → (v : Inv (s .procs) x at q g) → Place i q → Raised x i (step s x (at i) i)
-      go q v (outside f) = let e = v .now in rw (v .out i f) (omega arith)
-      go q v (first {r = r}) = head (v .line .0)
-        where
-          head : Head at i g → Raised x i (step s x (at i) i)
-          head (h2 e z) = rw e (waiting (eqb (x .release) (x .mine i)))
-          head (h3 e z) = let y = v .now in rw e (omega arith)
-          head (h4 e z) = let y = v .kept i e in rw e (omega arith)
-      go q v (behind {a = a} {r = r} m) = rw (waits-at at i r (v .line .1) m) (waiting (eqb (x .release) (x .mine i)))
-
   -- the first of the line, where nobody holds
   first-waits : (f : ℕ) (r : List ℕ) → Inv (s .procs) x at (f ∷ r) [] → (at f ≢ 1) × (at f ≢ 3) × (step s x (at f) f .says ≡ one grant)
   unfolding step
@@ -289,6 +267,10 @@ requested : (mine : ℕ → ℕ) (request n : ℕ) (q : List ℕ) → Tickets mi
 requested mine request n [] t = t ∙ omega arith
 requested mine request n (a ∷ q) t = requested mine request (suc n) q (t .1) ∙ omega arith
 
+-- the release counter goes up where step t of processor i says a release, and nowhere else
+abbrev pub Raised : State → ℕ → Step State → Type 0
+Raised x i t = t .memory .release ≡ (x .release + length (of release (said i (t .says)))) % wrap
+
 -- what the line says of the counters
 module _ (s : Settings) (small : s .procs ≤ mostTicket + 1) (t : s .ticket ≤ mostTicket) (x : State) (at : ℕ → ℕ) (q g : List ℕ)
     (v : ticket s small t .Inv x at q g) where
@@ -310,5 +292,19 @@ module _ (s : Settings) (small : s .procs ≤ mostTicket + 1) (t : s .ticket ≤
   undisturbed = v .kept
 
   pub raised : (i : ℕ) → Raised x i (step s x (at i) i)
-  unfolding ticket
-  raised i = raises s small x at i q g v
+  unfolding ticket step
+  raised i = go q v (find i q)
+    where
+      waiting : (b : Bool) → Raised x i (waits b s x)
+      waiting true = let e = v .now in omega arith
+      waiting false = let e = v .now in omega arith
+
+      go : (q : List ℕ) (v : Inv (s .procs) x at q g) → Place i q → Raised x i (step s x (at i) i)
+      go q v (outside f) = let e = v .now in rw (v .out i f) (omega arith)
+      go q v first = head (v .line .0)
+        where
+          head : Head at i g → Raised x i (step s x (at i) i)
+          head (h2 e z) = rw e (waiting (eqb (x .release) (x .mine i)))
+          head (h3 e z) = let y = v .now in rw e (omega arith)
+          head (h4 e z) = let y = v .kept i e in rw e (omega arith)
+      go q v (behind {r = r} m) = rw (waits-at at i r (v .line .1) m) (waiting (eqb (x .release) (x .mine i)))
