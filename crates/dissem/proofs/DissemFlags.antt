@@ -2,13 +2,15 @@
 use mathlib.Core.Path.{_≡_, sym, ap, _∙_}
 use mathlib.Core.List.{List}
 use Prim.Native.Nat.{ℕ, _+_, _-_, _*_, _%_, _^_, _≤_, _<_}
+use native.Mathlib.Nat.{mod-eq-of-lt, mod-eq-sub-mod}
 use native.Mathlib.Omega.{arith}
+use lib.Bits.{bitAnd, and-mask}
 use lib.Dec.{eqb}
 use lib.ListN.{getD, replicate}
-use lib.Pow.{pow-mono}
 use Rattle.rules.specs.Memory.{pick}
 use Rattle.rules.specs.Settings.{Settings}
-use Rattle.rules.specs.Dissem.{State, start}
+use Rattle.rules.specs.Dissem.{State, start, doublings}
+use Rattle.rules.proofs.Levels.{round-below}
 use Rattle.rules.proofs.Views.{view, Place, view-at, view-blank}
 use Rattle.turns.specs.BitView.{bits}
 use Rattle.turns.proofs.Words.{bits-zero}
@@ -17,17 +19,24 @@ use Rattle.dissem.specs.DissemView.{senseOf, parityOf, roundOf, flagsOf}
 pub same-flags : (a b : State) → a .flag ≡ b .flag → a .sense ≡ b .sense → a .parity ≡ b .parity → a .round ≡ b .round → a ≡ b
 same-flags a b p q r s = λ j. record { flag = p j; sense = q j; parity = r j; round = s j }
 
--- the code's sum for the partner
-pub power≤ : (k : ℕ) → k < 6 → 2 ^ k ≤ 32
-power≤ k h = pow-mono {i = k} {j = 5} (omega arith)
+-- ---- the partner
+
+-- in each of the R rounds the sum is below twice P
+pub below-twice : (w k p : ℕ) → w < p → k < doublings p → w + 2 ^ k < 2 * p
+below-twice w k p a b = omega (arith, round-below p k b)
+
+-- and then P is taken off at most once
+pub once-off : (sum p : ℕ) → p ≤ sum → sum < 2 * p → sum - p ≡ sum % p
+once-off sum p a b = sym (mod-eq-sub-mod a ∙ mod-eq-of-lt (omega arith))
 
 -- ---- the bytes
 
 abbrev pub Left : ℕ → ℕ → Type 0
 Left own r = (senseOf r ≡ pick (eqb (parityOf own) 1) (1 - senseOf own) (senseOf own)) × (parityOf r ≡ 1 - parityOf own) × (roundOf r ≡ 0)
 
-pub left-is : (own r p s : ℕ) → own % 4 ≡ p * 2 + s → p < 2 → s < 2 → senseOf r ≡ pick (eqb p 1) (1 - s) s → parityOf r ≡ 1 - p → roundOf r ≡ 0 → Left own r
+pub left-is : (own r p s : ℕ) → bitAnd own 3 ≡ p * 2 + s → p < 2 → s < 2 → senseOf r ≡ pick (eqb p 1) (1 - s) s → parityOf r ≡ 1 - p → roundOf r ≡ 0 → Left own r
 left-is own r p s e hp hs a b d =
+    let low : own % 4 ≡ p * 2 + s = sym (and-mask own 2) ∙ e in
     let is-p : parityOf own ≡ p = omega arith in
     let is-s : senseOf own ≡ s = omega arith in
     rw (is-p, is-s) (a, b, d)

@@ -71,6 +71,14 @@ module _ {w procs levels rounds : ℕ} {x : State} {c : Course} {k : ℕ} (o : H
       go (yes z) = omega (arith, round-first z)
       go (no n) = omega (arith, round-within n, o .rounds-are, doublings≤ procs (o .most))
 
+  -- and where there are others to tell, it is one of the R
+  pub round<R : (procs ≡ 1 → ⊥) → x .round w < levels
+  round<R n = go (ℕ-discrete k 1)
+    where
+      go : Dec (k ≡ 1) → x .round w < levels
+      go (yes z) = rw (round-first z, o .rounds-are) (some-rounds procs (omega (arith, o .below)))
+      go (no y) = round-within y
+
   -- where there is one processor, there are no rounds
   only-first : procs ≡ 1 → k ≡ 1
   only-first e = go (ℕ-discrete k 1)
@@ -122,23 +130,23 @@ module _ {w procs levels rounds : ℕ} {x : State} {c : Course} {k : ℕ} (o : H
     parity = x .parity;
     round = x .round;
   })
-      (b : c′ ≡ goneTo c w 2 0) (t : j ≡ (w + 2 ^ x .round w) % procs) where
+      (b : c′ ≡ goneTo c w 2 0) (t : j ≡ (w + 2 ^ x .round w) % procs) (n : procs ≡ 1 → ⊥) where
     memory : (r : ℕ) (says : Says) (s : Settings) → s .procs ≡ procs → x .round w ≡ r → x′ ≡ tells r says s x w .memory
     memory r says s p q = rw (p, ← q, ← t, same-upd (x .round) w (x .round w) refl) a
 
-    told-sound : x .round w < levels → Sound levels x′ c′
-    told-sound h =
+    told-sound : Sound levels x′ c′
+    told-sound =
         sound-at levels w x x′ c c′ (o .sound) 2 (x .round w) (ap (λ (y : Course). y .at) b)
-        (ap (λ (y : State). y .round) a ∙ sym (same-upd (x .round) w (x .round w) refl)) (λ q. absurd (omega arith)) (λ q. h)
+        (ap (λ (y : State). y .round) a ∙ sym (same-upd (x .round) w (x .round w) refl)) (λ q. absurd (omega arith)) (λ q. round<R o n)
 
-    first : (procs ≡ 1 → ⊥) → k ≡ 1 → d ≡ touching w j ((1024 + w) ∷ []) true false false → Made-so
+    first : k ≡ 1 → d ≡ touching w j ((1024 + w) ∷ []) true false false → Made-so
     unfolding step remote
-    first n z g =
+    first z g =
         let q : x .round w ≡ 0 = round-first o z in
         let t₀ : j ≡ (w + 2 ^ 0) % procs = rw q at t in (
           turns-to machine (At procs) w rounds hold x c (o .what) (o .dues) x′ c′ d k (o .is) (λ s. tells 0 (one arrive) s x w) (λ s p. rw (z, p, ne-eqb _ _ n) refl)
               (λ s p. memory 0 (one arrive) s p q) (λ s p. rw (z, p, ← t₀) g) 2 (λ s. refl) (λ s. refl) b,
-          told-sound (rw (q, o .rounds-are) (some-rounds procs (omega (arith, o .below)))),
+          told-sound,
         )
 
     later : (k ≡ 2 → ⊥) → (k ≡ 1 → ⊥) → d ≡ touching w j [] false false false → Made-so
@@ -146,16 +154,16 @@ module _ {w procs levels rounds : ℕ} {x : State} {c : Course} {k : ℕ} (o : H
     later z y g = (
       turns-to machine (At procs) w rounds hold x c (o .what) (o .dues) x′ c′ d k (o .is) (λ s. tells (x .round w) nothing s x w) (λ s p. rw (ne-eqb _ _ y, ne-eqb _ _ z) refl)
           (λ s p. memory (x .round w) nothing s p refl) (λ s p. rw (ne-eqb _ _ y, p, ← t) g) 2 (λ s. refl) (λ s. refl) b,
-      told-sound (round-within o y),
+      told-sound,
     )
 
     -- the first access of a passage is the arrival
-    pub dissem-tells : (k ≡ 2 → ⊥) → (procs ≡ 1 → ⊥)
+    pub dissem-tells : (k ≡ 2 → ⊥)
         → d ≡ toldOf w (record { owner = j; first = pick (eqb k 1) 4 0; second = 0; began = eqb k 1; done = false; spin = false; idle = false }) → Made-so
-    dissem-tells z n g = go (ℕ-discrete k 1)
+    dissem-tells z g = go (ℕ-discrete k 1)
       where
         go : Dec (k ≡ 1) → Made-so
-        go (yes y) = first n y (rw (eq-eqb k 1 y) at g)
+        go (yes y) = first y (rw (eq-eqb k 1 y) at g)
         go (no y) = later z y (rw (ne-eqb k 1 y) at g)
 
   -- the own flag is read

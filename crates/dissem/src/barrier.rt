@@ -30,21 +30,21 @@ pub(crate) struct Dissem {
 fn sense(own: u8) -> u16
     ensures { λ r. ⌜ r ≡ senseOf own ⌝ }
 {
-    (own % 2) as u16
+    (own & 1) as u16
 }
 
 // The variable that is written or read in this round.
 fn variable(own: u8) -> u8
     ensures { λ r. ⌜ r ≡ 2 * roundOf own + parityOf own ⌝ }
 {
-    2 * (own / 4) + own / 2 % 2
+    own >> 1
 }
 
 // What own becomes on leaving: the sense is toggled if parity is 1, parity changes, and the round is 0.
 fn left(own: u8) -> u8
     ensures { λ r. ⌜ (senseOf r ≡ pick (eqb (parityOf own) 1) (1 - senseOf own) (senseOf own)) × (parityOf r ≡ 1 - parityOf own) × (roundOf r ≡ 0) ⌝ }
 {
-    match own % 4 {
+    match own & 3 {
         0 => 2,
         1 => 3,
         2 => 1,
@@ -52,12 +52,16 @@ fn left(own: u8) -> u8
     }
 }
 
-// The processor that w tells in round k.
+// The processor that w tells in round k. 2^k is below procs and so the sum below twice procs: what is over is taken off once.
 fn partner(w: u16, k: u8, procs: u16) -> u16
-    requires { ⌜ (w < procs) × (procs ≤ 64) × (k < 6) ⌝ }
+    requires { ⌜ (w < procs) × (procs ≤ 64) × (k < doublings procs) ⌝ }
     ensures { λ r. ⌜ (r ≡ (w + 2 ^ k) % procs) × (r < procs) ⌝ }
 {
-    (w + (1u16 << k)) % procs
+    let j = w + (1u16 << k);
+    if procs <= j {
+        return j - procs;
+    }
+    j
 }
 
 impl Flags {
@@ -149,7 +153,7 @@ impl Dissem {
                     made: made::spin(w),
                 };
             }
-            if o / 4 + 1 == levels {
+            if (o >> 2) + 1 == levels {
                 return Dissem {
                     flags: flags.leaves(i),
                     course: course.leaves(i, hold),
@@ -169,7 +173,7 @@ impl Dissem {
                 made: made::alone(w),
             };
         }
-        let j = partner(w, o / 4, procs);
+        let j = partner(w, o >> 2, procs);
         Dissem {
             flags: flags.tells(i, j as usize),
             course: course.goes(i, 2),

@@ -9,7 +9,7 @@ use Rattle.dissem.specs.DissemView.{flagsOf}
 use Rattle.turns.proofs.Courses.{held-some}
 use Rattle.turns.proofs.Turning.{told-none}
 use Rattle.dissem.proofs.DissemFlags.{read-flag, read-sense}
-use Rattle.dissem.proofs.DissemTurns.{Here, round<6, dissem-holds, dissem-idles, dissem-alone, dissem-tells, dissem-spins, dissem-goes-on, dissem-leaves}
+use Rattle.dissem.proofs.DissemTurns.{Here, round<6, round<R, dissem-holds, dissem-idles, dissem-alone, dissem-tells, dissem-spins, dissem-goes-on, dissem-leaves}
 use Rattle.dissem.proofs.barrier.Dissem.turn.Statement.{statement}
 use Rattle.dissem.proofs.barrier.Dissem.turn.Tie as tie
 
@@ -118,7 +118,7 @@ partner-requires : tie.Need-partner-requires
 partner-requires c κs =
     let a : tie.After-due2 = search needs in
     let z : tie.Start = search needs in
-    (search needs, search needs, omega (arith, round<6 (here a), view-at 1 (own-place z)))
+    (search needs, search needs, rw (← view-at 1 (own-place z), ← here a .rounds-are) (round<R (here a) (search needs)))
 
 tells-requires : tie.Need-tells-requires
 tells-requires c κs =
