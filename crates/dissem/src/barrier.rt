@@ -6,7 +6,7 @@ use turns::bit;
 use turns::made;
 use turns::with_bit;
 ghost use mathlib.Core.Path.{_≡_};
-ghost use Prim.Native.Nat.{ℕ, _<_, _≤_, _+_, _-_, _*_, _/_, _%_, _^_};
+ghost use Prim.Native.Nat.{ℕ, _<_, _≤_, _+_, _-_, _*_, _%_, _^_};
 ghost use lib.Dec.{eqb};
 ghost use Rattle.rules.specs.Memory.{pick, upd};
 ghost use Rattle.rules.specs.Dissem.{machine, doublings};
@@ -52,7 +52,7 @@ fn left(own: u8) -> u8
     }
 }
 
-// The processor that w tells in round k. 2^k is below procs and so the sum below twice procs: what is over is taken off once.
+// The processor that w tells in round k. In each of the R rounds 2^k is below procs, so the sum is below twice procs.
 fn partner(w: u16, k: u8, procs: u16) -> u16
     requires { ⌜ (w < procs) × (procs ≤ 64) × (k < doublings procs) ⌝ }
     ensures { λ r. ⌜ (r ≡ (w + 2 ^ k) % procs) × (r < procs) ⌝ }
