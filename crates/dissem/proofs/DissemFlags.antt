@@ -1,4 +1,4 @@
--- Laws for the dissemination barrier's words of flags and bytes of its own.
+-- Laws for the dissemination barrier's partner, words of flags and bytes of its own.
 use mathlib.Core.Path.{_≡_, sym, ap, _∙_}
 use mathlib.Core.List.{List}
 use Prim.Native.Nat.{ℕ, _+_, _-_, _*_, _%_, _^_, _≤_, _<_}
