@@ -64,20 +64,19 @@ module _ {w procs levels rounds : ℕ} {x : State} {c : Course} {k : ℕ} (o : H
   round-within : (k ≡ 1 → ⊥) → x .round w < levels
   round-within n = o .sound .within w (λ z. n (sym at-k ∙ z))
 
-  pub round<6 : x .round w < 6
-  round<6 = go (ℕ-discrete k 1)
+  round-under : (m : ℕ) → 0 < m → levels ≤ m → x .round w < m
+  round-under m some all = go (ℕ-discrete k 1)
     where
-      go : Dec (k ≡ 1) → x .round w < 6
+      go : Dec (k ≡ 1) → x .round w < m
       go (yes z) = omega (arith, round-first z)
-      go (no n) = omega (arith, round-within n, o .rounds-are, doublings≤ procs (o .most))
+      go (no n) = omega (arith, round-within n)
 
-  -- and where there are others to tell, it is one of the R
+  pub round<6 : x .round w < 6
+  round<6 = round-under 6 (omega arith) (omega (arith, o .rounds-are, doublings≤ procs (o .most)))
+
+  -- where there are others to tell, it is one of the R
   pub round<R : (procs ≡ 1 → ⊥) → x .round w < levels
-  round<R n = go (ℕ-discrete k 1)
-    where
-      go : Dec (k ≡ 1) → x .round w < levels
-      go (yes z) = rw (round-first z, o .rounds-are) (some-rounds procs (omega (arith, o .below)))
-      go (no y) = round-within y
+  round<R n = round-under levels (omega (arith, o .rounds-are, some-rounds procs (omega (arith, o .below)))) (omega arith)
 
   -- where there is one processor, there are no rounds
   only-first : procs ≡ 1 → k ≡ 1
