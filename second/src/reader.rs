@@ -4,7 +4,7 @@
 use crate::settings::{Accepted, Algorithm, Plan, Settings};
 
 const MOST_LETTERS: usize = 8;
-const MOST_DIGITS: usize = 5;
+const MOST_DIGITS: usize = 9;
 const MOST_TURNS: usize = 16384;
 
 /// The numbers of refusal that reading can give. There is no number 6: this
@@ -90,7 +90,8 @@ impl Cursor<'_> {
         Ok(&self.bytes[first..self.place])
     }
 
-    /// 1 to 5 digits; after a leading 0 no digit can follow, nor a sixth.
+    /// 1 to 9 digits; after a leading 0 no digit can follow, nor a tenth. A
+    /// number of more than 5 is out of every range.
     fn number(&mut self) -> Result<Number, Refusal> {
         let first = self.place;
         let mut value = 0;
@@ -211,8 +212,19 @@ mod tests {
         assert_eq!(refusal("algo=abcdefghi\n"), (1, 13));
         assert_eq!(refusal("algo=mcs\nprocs=99999"), (1, 20));
         assert_eq!(refusal("algo=mcs\nprocs=99999\n"), (3, 15));
-        assert_eq!(refusal("algo=mcs\nprocs=999999\n"), (1, 20));
         assert_eq!(refusal("algo=mcs\nprocs=00\n"), (1, 16));
+    }
+
+    #[test]
+    fn a_number_is_too_big_up_to_nine_digits() {
+        assert_eq!(refusal("algo=mcs\nprocs=100000\n"), (3, 15));
+        assert_eq!(refusal("algo=mcs\nprocs=100000"), (1, 21));
+        assert_eq!(refusal("algo=mcs\nprocs=100000,"), (1, 21));
+        assert_eq!(refusal("algo=mcs\nprocs=999999999\n"), (3, 15));
+        assert_eq!(refusal("algo=mcs\nprocs=999999999"), (1, 24));
+        assert_eq!(refusal("algo=mcs\nprocs=1000000000\n"), (1, 24));
+        assert_eq!(refusal("algo=mcs\nprocs=1000000000"), (1, 24));
+        assert_eq!(refusal("algo=mcs\nprocs=012345678\n"), (1, 16));
     }
 
     #[test]
@@ -225,6 +237,10 @@ mod tests {
         assert_eq!(at("0,\n"), (1, start + 2));
         assert_eq!(at("0,1\n"), (4, start + 2));
         assert_eq!(at("0,1;"), (1, start + 3));
+        assert_eq!(at("0,999999999\n"), (4, start + 2));
+        assert_eq!(at("999999999,0\n"), (4, start));
+        assert_eq!(at("0,999999999"), (1, start + 11));
+        assert_eq!(at("0,9999999990\n"), (1, start + 11));
         assert_eq!(at("0,0\nx"), (1, start + 4));
         let full = vec!["0"; 16384].join(",");
         assert!(read(format!("{head}{full}\n").as_bytes()).is_ok());
@@ -232,5 +248,8 @@ mod tests {
         assert_eq!(at(&format!("{full},\n")), (1, end));
         assert_eq!(at(&format!("{full},7")), (1, end + 1));
         assert_eq!(at(&format!("{full},7\n")), (5, end));
+        assert_eq!(at(&format!("{full},999999999\n")), (5, end));
+        assert_eq!(at(&format!("{full},999999999")), (1, end + 9));
+        assert_eq!(at(&format!("{full},1000000000\n")), (1, end + 9));
     }
 }

@@ -11,6 +11,7 @@ use Rattle.laws.proofs.Counters.{counters, trace}
 use Rattle.laws.proofs.McsCost.{four, four-reached}
 use Rattle.laws.proofs.TreeCost.{tree-price, episode-reached}
 use Rattle.laws.proofs.Refusals as refusals
+use Rattle.laws.proofs.Judging.{judged}
 use Rattle.laws.proofs.Runs.{runs}
 use Rattle.laws.proofs.Files as files
 use Rattle.laws.proofs.Doubling.{doublings-hold}
@@ -44,6 +45,7 @@ all-laws = record {
     run-leaves = refusals.untouched-run;
     read-leaves = refusals.untouched-read;
   };
+  judged = judged;
   read-write = files.read-write;
   write-read = files.write-read;
   longest = files.longest;

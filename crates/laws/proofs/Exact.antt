@@ -1,6 +1,6 @@
 -- A rule reads exactly the texts of the values that are allowed, and refuses with a number. Stated once for any rule; kept by sequence and by a check.
 use Prim.Native.Nat.{ℕ, suc, _+_, _<_}
-use mathlib.Core.Path.{_≡_, refl, ap, sym, _∙_}
+use mathlib.Core.Path.{_≡_, refl, ap, ap₂, sym, _∙_}
 use mathlib.Core.List.{List, [], _∷_, _++_, append-assoc}
 use mathlib.Core.Bool.{Bool, true, false}
 use lib.ListN.{length, length-append}
@@ -30,22 +30,31 @@ module _ {A : Type 0} (v : A) (s : List ℕ) (at : ℕ) where
 
 -- ---- what a refusal tells
 
-pub same-number : {A : Type 0} (m o n p : ℕ) → _≡_ {A = Got A} (fault m o) (fault n p) → 0 < m → 0 < n
-same-number m o n p e z = let q : m ≡ n = cc in omega arith
+pub same-number : {A : Type 0} (m o n p : ℕ) → _≡_ {A = Got A} (fault m o) (fault n p) → n ≡ m
+same-number m o n p e = cc
 
 pub not-ok : {A : Type 0} (v : A) (s : List ℕ) (at n p : ℕ) → ok v s at ≡ fault n p → ⊥
 not-ok v s at n p e = let z : _≡_ {A = ℕ} 0 1 = cc in omega arith
 
 -- one of two refused
-pub pick-refuses : {A : Type 0} (b : Bool) (g h : Got A) (n p : ℕ) → pick b g h ≡ fault n p → (g ≡ fault n p → 0 < n) → (h ≡ fault n p → 0 < n) → 0 < n
+pub pick-refuses {ℓ} : {X : Type ℓ} {A : Type 0} (b : Bool) (g h : Got A) (n p : ℕ) → pick b g h ≡ fault n p
+    → (g ≡ fault n p → X) → (h ≡ fault n p → X) → X
 pick-refuses true g h n p e k l = k e
 pick-refuses false g h n p e k l = l e
 
 -- the first rule refused, or the second
-pub after-refuses : {A B : Type 0} (g : Got A) (f : A → Rule B) (n p : ℕ) → after g f ≡ fault n p
-    → ((m o : ℕ) → g ≡ fault m o → 0 < m) → ((v : A) (s : List ℕ) (at : ℕ) → g ≡ ok v s at → f v s at ≡ fault n p → 0 < n) → 0 < n
+pub after-refuses {ℓ} : {X : Type ℓ} {A B : Type 0} (g : Got A) (f : A → Rule B) (n p : ℕ) → after g f ≡ fault n p
+    → (g ≡ fault n p → X) → ((v : A) (s : List ℕ) (at : ℕ) → g ≡ ok v s at → f v s at ≡ fault n p → X) → X
 after-refuses (ok v s at) f n p e k l = l v s at refl e
-after-refuses (fault m o) f n p e k l = same-number m o n p e (k m o refl)
+after-refuses (fault m o) f n p e k l = let x : m ≡ n = cc in let y : o ≡ p = cc in k (ap₂ (λ (i j : ℕ). fault i j) x y)
+
+-- a value that fails its test is refused at its first byte
+pub checked-refuses {ℓ} : {X : Type ℓ} {A : Type 0} (m : ℕ) (test : A → Bool) (r : Rule A) (s : List ℕ) (at n p : ℕ) → checked m test r s at ≡ fault n p
+    → (r s at ≡ fault n p → X) → ((v : A) (s′ : List ℕ) (at′ : ℕ) → r s at ≡ ok v s′ at′ → n ≡ m → p ≡ at → X) → X
+checked-refuses m test r s at n p e k l =
+    after-refuses (r s at) _ n p e k
+    (λ v s′ at′ g q.
+    pick-refuses (test v) (ok v s′ at′) (fault m at) n p q (λ h. absurd (not-ok v s′ at′ n p h)) (λ h. l v s′ at′ g (same-number m at n p h) (cc)))
 
 -- ---- exact rules
 
@@ -84,7 +93,7 @@ module _ {A B : Type 0} {r : Rule A} {w : A → List ℕ} {P : A → Type 0} {f 
 
   then-refuses : (s : List ℕ) (at n p : ℕ) → _>>=_ r f s at ≡ fault n p → 0 < n
   then-refuses s at n p e =
-      after-refuses (r s at) f n p e (λ m o h. er .refuses s at m o h) (λ a s′ at′ h q. ef a (er .was s at a s′ at′ h .1) .refuses s′ at′ n p q)
+      after-refuses (r s at) f n p e (er .refuses s at n p) (λ a s′ at′ h q. ef a (er .was s at a s′ at′ h .1) .refuses s′ at′ n p q)
 
   pub exact-then : Exact (_>>=_ r f) Text Allowed
   exact-then = record { reads = then-reads; was = then-was; refuses = then-refuses }
@@ -117,13 +126,12 @@ module _ {A : Type 0} {r : Rule A} {w : A → List ℕ} {P : A → Type 0} (n : 
       let same : x ≡ v = cc in
       (y .0, (y .1, rw same at t))))
 
-  checked-refuses : (s : List ℕ) (at m p : ℕ) → checked n test r s at ≡ fault m p → 0 < m
-  checked-refuses s at m p e =
-      after-refuses (r s at) _ m p e (λ l o h. er .refuses s at l o h)
-      (λ v s′ at′ h q. pick-refuses (test v) (ok v s′ at′) (fault n at) m p q (λ k. absurd (not-ok v s′ at′ m p k)) (λ k. same-number n at m p k z))
-
   pub exact-check : Exact (checked n test r) w (λ v. P v × (test v ≡ true))
-  exact-check = record { reads = λ v h s at. rw (er .reads v (h .0) s at, h .1); was = checked-was; refuses = checked-refuses }
+  exact-check = record {
+    reads = λ v h s at. rw (er .reads v (h .0) s at, h .1);
+    was = checked-was;
+    refuses = λ s at m p e. checked-refuses n test r s at m p e (er .refuses s at m p) (λ v s′ at′ g q o. omega arith);
+  }
 
 -- ---- a literal
 
@@ -142,16 +150,16 @@ lit-was (b ∷ bs) (x ∷ s) at v s′ at′ e =
     on-pick v s′ at′ (eqb x b) (lit bs s (at + 1)) 1 at e
     (λ t h. let p : x ≡ b = eqb-true x b t in let q : s ≡ bs ++ s′ = lit-was bs s (at + 1) v s′ at′ h in cc)
 
-lit-refuses : (bs s : List ℕ) (at n p : ℕ) → lit bs s at ≡ fault n p → 0 < n
+-- a refusal of a literal is 1
+pub lit-refuses : (bs s : List ℕ) (at n p : ℕ) → lit bs s at ≡ fault n p → n ≡ 1
 unfolding lit
 lit-refuses [] s at n p e = absurd (not-ok tt s at n p e)
-lit-refuses (b ∷ bs) [] at n p e = same-number 1 at n p e (omega arith)
-lit-refuses (b ∷ bs) (x ∷ s) at n p e =
-    pick-refuses (eqb x b) _ _ n p e (λ h. lit-refuses bs s (at + 1) n p h) (λ h. same-number 1 at n p h (omega arith))
+lit-refuses (b ∷ bs) [] at n p e = same-number 1 at n p e
+lit-refuses (b ∷ bs) (x ∷ s) at n p e = pick-refuses (eqb x b) _ _ n p e (λ h. lit-refuses bs s (at + 1) n p h) (same-number 1 at n p)
 
 pub exact-lit : (bs : List ℕ) → Exact (lit bs) (λ v. bs) (λ v. Unit {0})
 exact-lit bs = record {
   reads = λ v h s at. lit-reads bs s at;
   was = λ s at v s′ at′ e. (lit-was bs s at v s′ at′ e, tt);
-  refuses = lit-refuses bs;
+  refuses = λ s at n p e. omega (arith, lit-refuses bs s at n p e);
 }

@@ -24,5 +24,6 @@ pub mod Turns
 pub mod RoundTrip
 pub mod Near
 pub mod Longest
+pub mod Judging
 pub mod Files
 pub mod All

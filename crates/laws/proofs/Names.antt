@@ -80,14 +80,15 @@ letters-was k w (x ∷ s) at v s′ at′ e =
     }))
     e
 
-letters-refuses : (k : ℕ) (w s : List ℕ) (at n p : ℕ) → letters k w s at ≡ fault n p → 0 < n
+-- a refusal of a word is 1
+letters-refuses : (k : ℕ) (w s : List ℕ) (at n p : ℕ) → letters k w s at ≡ fault n p → n ≡ 1
 unfolding letters
-letters-refuses k w [] at n p e = same-number 1 at n p e (omega arith)
+letters-refuses k w [] at n p e = same-number 1 at n p e
 letters-refuses k w (x ∷ s) at n p e =
     pick-refuses (eqb x feed) _ _ n p e (λ q. absurd (not-ok w s (at + 1) n p q))
     (λ q.
     pick-refuses (ltb 0 k && isLower x) _ _ n p q (λ g. letters-refuses (k - 1) (w ++ x ∷ []) s (at + 1) n p g)
-    (λ g. same-number 1 at n p g (omega arith)))
+    (same-number 1 at n p))
 
 word-reads : (w : List ℕ) → worded w ≡ true → (s : List ℕ) (at : ℕ) → word ((w ++ feed ∷ []) ++ s) at ≡ ok w s (at + length (w ++ feed ∷ []))
 unfolding word
@@ -113,14 +114,14 @@ word-was (x ∷ s) at w s′ at′ e =
           rw (lt-ltb 0 (suc (length (r .more))) (omega arith), le-leb (suc (length (r .more))) mostLetters (omega arith), t, r .low),
         )
 
-word-refuses : (s : List ℕ) (at n p : ℕ) → word s at ≡ fault n p → 0 < n
+pub word-refuses : (s : List ℕ) (at n p : ℕ) → word s at ≡ fault n p → n ≡ 1
 unfolding word
-word-refuses [] at n p e = same-number 1 at n p e (omega arith)
+word-refuses [] at n p e = same-number 1 at n p e
 word-refuses (x ∷ s) at n p e =
-    pick-refuses (isLower x) _ _ n p e (λ q. letters-refuses (mostLetters - 1) (x ∷ []) s (at + 1) n p q) (λ q. same-number 1 at n p q (omega arith))
+    pick-refuses (isLower x) _ _ n p e (λ q. letters-refuses (mostLetters - 1) (x ∷ []) s (at + 1) n p q) (same-number 1 at n p)
 
 exact-word : Exact word (λ w. w ++ feed ∷ []) (λ w. worded w ≡ true)
-exact-word = record { reads = word-reads; was = word-was; refuses = word-refuses }
+exact-word = record { reads = word-reads; was = word-was; refuses = λ s at n p e. omega (arith, word-refuses s at n p e) }
 
 -- ---- the table
 

@@ -132,26 +132,38 @@ module _ (a b : ℕ) (v : ℕ × ℕ) (s′ : List ℕ) (at′ : ℕ) where
       together x n s e h r = rw (append-assoc, r .whole, decimal-one n h, e) (ap (λ (l : List ℕ). (48 + n) ∷ l) (r .cut))
 
 -- a refusal of a number is 1
-digits-refuses : (a b k n : ℕ) (s : List ℕ) (at m p : ℕ) → digits a b k n s at ≡ fault m p → 0 < m
+digits-refuses : (a b k n : ℕ) (s : List ℕ) (at m p : ℕ) → digits a b k n s at ≡ fault m p → m ≡ 1
 unfolding digits
-digits-refuses a b k n [] at m p e = same-number 1 at m p e (omega arith)
+digits-refuses a b k n [] at m p e = same-number 1 at m p e
 digits-refuses a b k n (x ∷ s) at m p e =
     pick-refuses (eqb x a || eqb x b) _ _ m p e (λ q. absurd (not-ok (n, x) s (at + 1) m p q))
     (λ q.
     pick-refuses (ltb 0 k && isDigit x) _ _ m p q (λ g. digits-refuses a b (k - 1) (n * 10 + (x - 48)) s (at + 1) m p g)
-    (λ g. same-number 1 at m p g (omega arith)))
+    (same-number 1 at m p))
 
-number-refuses : (a b : ℕ) (s : List ℕ) (at m p : ℕ) → number a b s at ≡ fault m p → 0 < m
+pub number-refuses : (a b : ℕ) (s : List ℕ) (at m p : ℕ) → number a b s at ≡ fault m p → m ≡ 1
 unfolding number
-number-refuses a b [] at m p e = same-number 1 at m p e (omega arith)
-number-refuses a b (x ∷ s) at m p e =
-    pick-refuses (isDigit x) _ _ m p e (λ q. digits-refuses a b _ (x - 48) s (at + 1) m p q) (λ q. same-number 1 at m p q (omega arith))
+number-refuses a b [] at m p e = same-number 1 at m p e
+number-refuses a b (x ∷ s) at m p e = pick-refuses (isDigit x) _ _ m p e (λ q. digits-refuses a b _ (x - 48) s (at + 1) m p q) (same-number 1 at m p)
+
+-- how many digits may follow those of n
+abbrev pub roomBehind : ℕ → ℕ
+roomBehind n = pick (eqb n 0) 0 (mostDigits - length (decimal n))
+
+-- where the digits end and no separator follows
+pub digits-none : (a b k n at : ℕ) → digits a b k n [] at ≡ fault 1 at
+unfolding digits
+digits-none a b k n at = refl
+
+pub digits-wrong : (a b k n x : ℕ) (s : List ℕ) (at : ℕ) → (eqb x a || eqb x b) ≡ false → (ltb 0 k && isDigit x) ≡ false → digits a b k n (x ∷ s) at ≡ fault 1 at
+unfolding digits
+digits-wrong a b k n x s at e f = rw (e, f)
 
 -- ---- what is read
 
 module _ (a b : ℕ) (na : isDigit a ≡ false) (nb : isDigit b ≡ false) where
   -- a digit is no separator
-  not-sep : (d : ℕ) → d < 10 → (eqb (48 + d) a || eqb (48 + d) b) ≡ false
+  pub not-sep : (d : ℕ) → d < 10 → (eqb (48 + d) a || eqb (48 + d) b) ≡ false
   not-sep d h = rw (ne-eqb (48 + d) a (apart a na), ne-eqb (48 + d) b (apart b nb))
     where
       apart : (x : ℕ) → isDigit x ≡ false → 48 + d ≡ x → ⊥
@@ -206,16 +218,18 @@ module _ (a b : ℕ) (na : isDigit a ≡ false) (nb : isDigit b ≡ false) where
           let f : n / 10 * 10 + n % 10 ≡ n = omega arith in
           subst (λ (j : ℕ). Goes j s at) f (goes-more (n / 10) (n % 10) s at (omega arith) (omega arith) (l g) (ih g))
 
+  pub number-goes : (n : ℕ) (s : List ℕ) (at : ℕ) → n < 10 ^ mostDigits
+      → number a b (decimal n ++ s) at ≡ digits a b (roomBehind n) n s (at + length (decimal n))
+  number-goes zero s at h = rw (decimal-one 0 (omega arith)) (number-first 0 s at (omega arith))
+  number-goes (suc n) s at h = rw (ne-eqb (suc n) 0 (λ e. omega arith)) (goes (mostDigits - 1) (suc n) s at (omega arith) (omega arith) h)
+
   number-reads : (n x : ℕ) (s : List ℕ) (at : ℕ) → n < 10 ^ mostDigits → IsSep a b x
       → number a b ((decimal n ++ x ∷ []) ++ s) at ≡ ok (n, x) s (at + length (decimal n ++ x ∷ []))
-  number-reads zero x s at h e =
-      let z : at + 1 + 1 ≡ at + 2 = omega arith in
-      rw (decimal-one 0 (omega arith), ← z) (number-first 0 (x ∷ s) at (omega arith) ∙ digits-end 0 0 x s (at + 1) e)
-  number-reads (suc n) x s at h e =
+  number-reads n x s at h e =
       rw (
         append-assoc,
-        goes (mostDigits - 1) (suc n) (x ∷ s) at (omega arith) (omega arith) h,
-        digits-end (mostDigits - length (decimal (suc n))) (suc n) x s (at + length (decimal (suc n))) e,
+        number-goes n (x ∷ s) at h,
+        digits-end (roomBehind n) n x s (at + length (decimal n)) e,
         length-append,
         add-assoc,
       )
@@ -224,5 +238,5 @@ module _ (a b : ℕ) (na : isDigit a ≡ false) (nb : isDigit b ≡ false) where
   exact-number = record {
     reads = λ v h s at. number-reads (v .0) (v .1) s at (h .0) (h .1);
     was = λ s at v s′ at′ e. number-was a b v s′ at′ s at e;
-    refuses = number-refuses a b;
+    refuses = λ s at n p e. omega (arith, number-refuses a b s at n p e);
   }

@@ -156,9 +156,9 @@ ends : {A : Type 0} (v w : A) (s : List ℕ) (at : ℕ) (s′ : List ℕ) (at′
 ends v w [] at s′ at′ e = (refl, cc)
 ends v w (x ∷ s) at s′ at′ e = absurd (not-fault w s′ at′ 1 at e)
 
-end-refuses : {A : Type 0} (v : A) (s : List ℕ) (at n p : ℕ) → ending v s at ≡ fault n p → 0 < n
+pub end-refuses : {A : Type 0} (v : A) (s : List ℕ) (at n p : ℕ) → ending v s at ≡ fault n p → n ≡ 1
 end-refuses v [] at n p e = absurd (not-ok v [] at n p e)
-end-refuses v (x ∷ s) at n p e = same-number 1 at n p e (omega arith)
+end-refuses v (x ∷ s) at n p e = same-number 1 at n p e
 
 -- a file that is read is the text of what is read
 pub file-was : (bytes : List ℕ) (v : Settings × List ℕ) (s′ : List ℕ) (at′ : ℕ) → file bytes 0 ≡ ok v s′ at′ → (bytes ≡ written v) × Full v
@@ -182,4 +182,5 @@ file-reads v h =
 -- a refusal has a number
 pub file-refuses : (bytes : List ℕ) (n p : ℕ) → file bytes 0 ≡ fault n p → 0 < n
 unfolding file whole
-file-refuses bytes n p e = after-refuses (body bytes 0) ending n p e (λ m o h. exact-body .refuses bytes 0 m o h) (λ v s at h q. end-refuses v s at n p q)
+file-refuses bytes n p e =
+    after-refuses (body bytes 0) ending n p e (exact-body .refuses bytes 0 n p) (λ v s at h q. omega (arith, end-refuses v s at n p q))

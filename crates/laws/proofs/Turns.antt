@@ -98,10 +98,10 @@ items-was (suc k) procs ts s at us s′ at′ e =
 items-refuses : (k procs : ℕ) (ts s : List ℕ) (at n p : ℕ) → items k procs ts s at ≡ fault n p → 0 < n
 unfolding items
 items-refuses zero procs ts s at n p e =
-    after-refuses (checked 5 (λ v. false) (number comma feed) s at) _ n p e (λ m o h. exact-item 5 (λ v. false) (omega arith) .refuses s at m o h)
+    after-refuses (checked 5 (λ v. false) (number comma feed) s at) _ n p e (exact-item 5 (λ v. false) (omega arith) .refuses s at n p)
     (λ v s′ at′ h q. absurd (not-ok ts s′ at′ n p q))
 items-refuses (suc k) procs ts s at n p e =
-    after-refuses (checked 4 (turn procs) (number comma feed) s at) _ n p e (λ m o h. exact-turn procs .refuses s at m o h)
+    after-refuses (checked 4 (turn procs) (number comma feed) s at) _ n p e (exact-turn procs .refuses s at n p)
     (λ v s′ at′ h q.
     by-test (λ (r : Rule (List ℕ)). r s′ at′ ≡ fault n p → 0 < n) (eqb (v .1) feed) _ _ (λ t g. absurd (not-ok (ts ++ v .0 ∷ []) s′ at′ n p g))
     (λ t g. items-refuses k procs (ts ++ v .0 ∷ []) s′ at′ n p g)
@@ -145,7 +145,7 @@ module _ (procs : ℕ) (hp : procs ≤ 10 ^ mostDigits) where
 
   turns-refuses : (s : List ℕ) (at n p : ℕ) → turns procs s at ≡ fault n p → 0 < n
   unfolding turns
-  turns-refuses [] at n p e = same-number 1 at n p e (omega arith)
+  turns-refuses [] at n p e = omega (arith, same-number 1 at n p e)
   turns-refuses (x ∷ s) at n p e =
       pick-refuses (eqb x feed) _ _ n p e (λ q. absurd (not-ok [] s (at + 1) n p q)) (λ q. items-refuses mostTurns procs [] (x ∷ s) at n p q)
 

@@ -18,8 +18,9 @@ use Rattle.rules.specs.Mcs as mcs
 use Rattle.rules.specs.Tree as tree
 use Rattle.rules.specs.Dissem.{doublings}
 use Rattle.rules.specs.Machines.{lock, machines, numbered, machine}
-use Rattle.rules.specs.File.{text}
-use Rattle.rules.specs.Calls.{over, allBelow, refusal, Record, Reading, reading, Writing, writing, acceptedRun, running}
+use Rattle.rules.specs.Rule.{comma, feed, isDigit}
+use Rattle.rules.specs.File.{decimal, text}
+use Rattle.rules.specs.Calls.{over, allBelow, refusal, Record, Reading, refusedRead, reading, Writing, writing, acceptedRun, running}
 use Rattle.rules.specs.Cases.{All, cases, requested}
 
 -- ---- words
@@ -175,6 +176,33 @@ pub data First (two three five four six : Type 0) : ℕ → Type 0 where
   gives-4 : ¬ two → ¬ three → ¬ five → four → First two three five four six 4
   gives-6 : ¬ two → ¬ three → ¬ five → ¬ four → six → First two three five four six 6
   gives-0 : ¬ two → ¬ three → ¬ five → ¬ four → ¬ six → First two three five four six 0
+
+-- ---- refused numbers
+
+abbrev pub Separator : ℕ → Type 0
+Separator x = (x ≡ comma) ⊎ (x ≡ feed)
+
+-- a file that read refuses at a number, once its separator has been read. What is refused in place of that number, whatever follows:
+pub record Judged (bytes schedule : List ℕ) (number place : ℕ) : Type 0 where
+  pub before : List ℕ
+  pub value : ℕ
+  pub separator : ℕ
+  pub behind : List ℕ
+  pub is : bytes ≡ before ++ (decimal value ++ separator ∷ behind)
+  pub at-first-digit : place ≡ length before
+  pub separates : Separator separator
+  -- a number of six to nine digits, with the same number at the same place
+  pub too-big : (n : ℕ) (after : List ℕ) → 10 ^ 5 ≤ n → n < 10 ^ 9
+      → reading (before ++ (decimal n ++ separator ∷ after)) schedule ≡ refusedRead number place schedule
+  -- a tenth digit, with 1 at its place
+  pub tenth-digit : (n d : ℕ) (after : List ℕ) → 10 ^ 8 ≤ n → n < 10 ^ 9 → d < 10
+      → reading (before ++ (decimal n ++ (48 + d) ∷ after)) schedule ≡ refusedRead 1 (place + 9) schedule
+  -- a digit after a leading zero, with 1 at its place
+  pub leading-zero : (d : ℕ) (after : List ℕ) → d < 10 → reading (before ++ 48 ∷ (48 + d) ∷ after) schedule ≡ refusedRead 1 (place + 1) schedule
+  -- a number of up to nine digits that the file ends after, or that neither a digit nor a separator follows, with 1 at the end or that byte
+  pub ends : (n : ℕ) → n < 10 ^ 9 → reading (before ++ decimal n) schedule ≡ refusedRead 1 (place + length (decimal n)) schedule
+  pub goes-wrong : (n x : ℕ) (after : List ℕ) → n < 10 ^ 9 → isDigit x ≡ false → ¬ (Separator x)
+      → reading (before ++ (decimal n ++ x ∷ after)) schedule ≡ refusedRead 1 (place + length (decimal n)) schedule
 
 -- ---- files
 
@@ -367,6 +395,9 @@ pub record Laws : Type 1 where
   pub tree-price : TreePrice
   pub runs : Runs
   pub refusals : Refusals
+  -- read gives 3, 4 and 5 at a number that it has read to its separator; one of six to nine digits in its place is refused alike
+  pub judged : (bytes schedule : List ℕ) (number place : ℕ) → 3 ≤ number → number ≤ 5
+      → reading bytes schedule ≡ refusedRead number place schedule → Judged bytes schedule number place
   -- what read accepted, write gives back byte for byte where it has room
   pub read-write : (bytes schedule out : List ℕ)
       → (let r : Reading = reading bytes schedule in

@@ -9,7 +9,7 @@ use settings::MOST_TURNS;
 use settings::Settings;
 ghost use Prim.Native.Nat.{_≤_};
 
-// Longer input is cut here. No answer of `read` depends on a byte past the first 50042.
+// Longer input is cut here. No answer of `read` depends on a byte past the first 50046.
 const MOST_BYTES: usize = 65536;
 
 const MOST_EVENTS: usize = 32768;

@@ -26,8 +26,9 @@ mostTurns = 16384
 abbrev pub mostLetters : ℕ
 mostLetters = 8
 
+-- of a number that is read: one of six to nine digits is out of every range (document 02, Ask 4)
 abbrev pub mostDigits : ℕ
-mostDigits = 5
+mostDigits = 9
 
 -- the longest accepted file
 abbrev pub longestFile : ℕ

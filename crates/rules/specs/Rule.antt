@@ -73,7 +73,7 @@ unfoldable pub word : Rule (List ℕ)
 word [] at = fault 1 at
 word (x ∷ left) at = pick (isLower x) (letters (mostLetters - 1) (x ∷ []) left (at + 1)) (fault 1 at)
 
--- ---- a number: 1 to 5 decimal digits, and a separator, a or b. The value is the number and which it was
+-- ---- a number: 1 to 9 decimal digits, and a separator, a or b. The value is the number and which it was
 
 -- the rest of a number whose digits so far say n: at most k digits more
 unfoldable pub digits : ℕ → ℕ → ℕ → ℕ → Rule (ℕ × ℕ)

@@ -1,11 +1,12 @@
 -- Numbers at a place of the file: one law for each way out.
-use Prim.Native.Nat.{ℕ, zero, suc, _+_, _-_, _*_, _^_, _≤_, _<_}
+use Prim.Native.Nat.{ℕ, suc, _+_, _-_, _*_, _^_, _≤_, _<_}
 use mathlib.Core.Path.{_≡_}
 use mathlib.Core.List.{List}
 use mathlib.Core.Bool.{_&&_, _||_}
 use lib.ListN.{length, getD, drop, drop-of-length-le}
 use lib.Dec.{ltb, eqb}
 use borrow.Author.Tests.{eq-eqb, ne-eqb, le-leb, lt-leb, lt-ltb}
+use native.Mathlib.Nat.{pow-le-pow-right}
 use native.Mathlib.Omega.{arith}
 use Rattle.rules.specs.Memory.{pick}
 use Rattle.rules.specs.Bounds.{mostDigits}
@@ -57,27 +58,17 @@ module _ (a b k n : ℕ) (s : List ℕ) (p : ℕ) (g : Got (ℕ × ℕ)) (e : g 
 -- ---- how great a number can be while k digits more may come
 
 below-step : (k n d : ℕ) → 0 < k → k < mostDigits → n < 10 ^ (mostDigits - k) → d ≤ 9 → n * 10 + d < 10 ^ (mostDigits - (k - 1))
-below-step zero n d z h m l = omega arith
-below-step (suc zero) n d z h m l = omega arith
-below-step (suc (suc zero)) n d z h m l = omega arith
-below-step (suc (suc (suc zero))) n d z h m l = omega arith
-below-step (suc (suc (suc (suc zero)))) n d z h m l = omega arith
-below-step (suc (suc (suc (suc (suc k))))) n d z h m l = omega arith
+below-step k n d z h m l = let e : mostDigits - (k - 1) ≡ suc (mostDigits - k) = omega arith in rw e (omega arith)
 
-below-most : (k n : ℕ) → k < mostDigits → n < 10 ^ (mostDigits - k) → n < 10 ^ mostDigits
-below-most zero n h m = omega arith
-below-most (suc zero) n h m = omega arith
-below-most (suc (suc zero)) n h m = omega arith
-below-most (suc (suc (suc zero))) n h m = omega arith
-below-most (suc (suc (suc (suc zero)))) n h m = omega arith
-below-most (suc (suc (suc (suc (suc k))))) n h m = omega arith
+below-most : (k n : ℕ) → n < 10 ^ (mostDigits - k) → n < 10 ^ mostDigits
+below-most k n m = omega (arith, pow-le-pow-right {n = 10} (omega arith) {i = mostDigits - k} {j = mostDigits} (omega arith))
 
 module _ (k n : ℕ) (h : k < mostDigits) (m : n < 10 ^ (mostDigits - k)) where
   pub below-times : n * 10 < 2 ^ 64
-  below-times = omega (arith, below-most k n h m)
+  below-times = omega (arith, below-most k n m)
 
   pub below-sum : (x : ℕ) → x ≤ 57 → n * 10 + (x - 48) < 2 ^ 64
-  below-sum x l = omega (arith, below-most k n h m)
+  below-sum x l = omega (arith, below-most k n m)
 
   pub below-next : (x : ℕ) → (k ≡ 0 → ⊥) → x ≤ 57 → n * 10 + (x - 48) < 10 ^ (mostDigits - (k - 1))
   below-next x z l = below-step k n (x - 48) (omega arith) h m (omega arith)

@@ -1,4 +1,4 @@
-// Numbers: 1 to 5 decimal digits and a separator.
+// Numbers: 1 to 9 decimal digits and a separator. One of six or more is out of every range.
 use crate::places::MALFORMED;
 use crate::places::Numeral;
 use crate::places::Step;
@@ -13,7 +13,7 @@ ghost use Rattle.rules.specs.Rule.{digits, number};
 ghost use Rattle.rules.specs.File.{ranged, field};
 ghost use Rattle.tokens.specs.TokenView.{numeralOf, valueOf};
 
-const MOST_DIGITS: usize = 5;
+const MOST_DIGITS: usize = 9;
 
 // The rest of a number whose digits so far say `said`: at most `room` digits more, and then `a` or `b`.
 fn digits(file: &[u8], a: u8, b: u8, room: usize, said: usize, at: usize) -> Numeral

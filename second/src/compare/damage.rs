@@ -26,6 +26,10 @@ pub fn any(dice: &mut Dice) -> Vec<u8> {
     }
 }
 
+/// The smallest and the largest number of six to nine digits, which are out
+/// of every range, and their neighbours.
+const BIG: [usize; 4] = [99_999, 100_000, 999_999_999, 1_000_000_000];
+
 /// One value at a bound, just below or just above it.
 fn boundary(dice: &mut Dice, draft: &mut Draft) {
     let near = |dice: &mut Dice, bound: usize| (bound + dice.below(3)).saturating_sub(1);
@@ -37,9 +41,20 @@ fn boundary(dice: &mut Dice, draft: &mut Draft) {
         3 => draft.plans[processor].0 = near(dice, 1000),
         4 => draft.plans[processor].1 = near(dice, 255),
         5 => set_procs(draft, dice.pick(&[0, 1, 2, 63, 64, 65, 66])),
-        6 => draft.ticket = dice.pick(&[9999, 10000, 99999]),
-        7 => draft.budget = dice.pick(&[9999, 10000, 99999, 32768, 65535, 65536]),
-        _ => draft.plans[processor] = (dice.pick(&[1000, 1001, 65536]), dice.pick(&[255, 256])),
+        6 => draft.ticket = big_or(dice, &[9999, 10000]),
+        7 => draft.budget = big_or(dice, &[9999, 10000, 32768, 65535, 65536]),
+        _ => {
+            let rounds = big_or(dice, &[1000, 1001, 65536]);
+            draft.plans[processor] = (rounds, big_or(dice, &[255, 256]));
+        }
+    }
+}
+
+fn big_or(dice: &mut Dice, others: &[usize]) -> usize {
+    if dice.chance(50) {
+        dice.pick(&BIG)
+    } else {
+        dice.pick(others)
     }
 }
 
@@ -99,7 +114,7 @@ fn bad_turn(dice: &mut Dice, draft: &mut Draft) {
     let count = draft.turns.len();
     let place =
         if dice.chance(70) { count - 1 - dice.below(count.min(3)) } else { dice.below(count) };
-    draft.turns[place] = dice.pick(&[draft.procs, draft.procs + 1, 64, 255, 256, 65536, 99999]);
+    draft.turns[place] = big_or(dice, &[draft.procs, draft.procs + 1, 64, 255, 256, 65536]);
 }
 
 /// A schedule at its longest, or past it.
@@ -108,11 +123,11 @@ fn full_schedule(dice: &mut Dice, mut draft: Draft) -> Vec<u8> {
     draft.turns = (0..MOST_TURNS + dice.below(2)).map(|turn| turn % procs).collect();
     if dice.chance(20) {
         let place = MOST_TURNS - 1 - dice.below(3);
-        draft.turns[place] = dice.pick(&[procs, 64, 99999]);
+        draft.turns[place] = big_or(dice, &[procs, 64]);
     }
     let mut file = draft.bytes();
     file.pop();
-    const TAILS: [&str; 14] = [
+    const TAILS: [&str; 18] = [
         "\n",
         "\n",
         "\n",
@@ -124,6 +139,10 @@ fn full_schedule(dice: &mut Dice, mut draft: Draft) -> Vec<u8> {
         ",0,0\n",
         ",99999\n",
         ",100000\n",
+        ",999999999\n",
+        ",999999999,0\n",
+        ",999999999",
+        ",1000000000\n",
         ",00\n",
         ",64,\n",
         ",0\r\n",
@@ -258,12 +277,12 @@ fn number_and_separator(dice: &mut Dice, file: &mut Vec<u8>) {
 }
 
 fn large_number(dice: &mut Dice, _digits: &[u8]) -> Vec<u8> {
-    dice.pick(&[65, 256, 1001, 16385, 65536, 70000, 99999]).to_string().into_bytes()
+    big_or(dice, &[65, 256, 1001, 16385, 65536, 70000]).to_string().into_bytes()
 }
 
 /// Makes the digits that come in place of others.
 type OtherNumber = fn(&mut Dice, &[u8]) -> Vec<u8>;
-const NUMBERS: [OtherNumber; 4] = [long_number, long_number, leading_zero, other_number];
+const NUMBERS: [OtherNumber; 4] = [any_length, any_length, leading_zero, other_number];
 
 /// Writes another number over one that stands in the file; gives the place
 /// behind it.
@@ -285,15 +304,16 @@ fn change_number(dice: &mut Dice, file: &mut Vec<u8>, other: OtherNumber) -> usi
     behind
 }
 
-fn long_number(dice: &mut Dice, _digits: &[u8]) -> Vec<u8> {
-    let length = dice.pick(&[5, 5, 6, 6, 7, 10, 11, 20, 21, 400]);
+/// 1 to 12 digits, seldom many more.
+fn any_length(dice: &mut Dice, _digits: &[u8]) -> Vec<u8> {
+    let length = if dice.chance(95) { dice.between(1, 12) } else { dice.pick(&[20, 21, 400]) };
     let first = b'1' + dice.below(9) as u8;
     let rest = (1..length).map(|_| b'0' + dice.below(10) as u8);
     std::iter::once(first).chain(rest).collect()
 }
 
 fn leading_zero(dice: &mut Dice, digits: &[u8]) -> Vec<u8> {
-    let mut longer = vec![b'0'; dice.pick(&[1, 1, 2, 4, 5])];
+    let mut longer = vec![b'0'; dice.pick(&[1, 1, 2, 4, 5, 8, 9])];
     longer.extend_from_slice(digits);
     longer
 }

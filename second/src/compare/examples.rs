@@ -46,6 +46,7 @@ pub fn made() -> Vec<Example> {
         longest_schedule(),
         turn_too_many("turns-16385", "0", 5),
         turn_too_many("turns-16385-not-below-procs", "7", 5),
+        turn_too_many("turns-16385-nine-digits", "999999999", 5),
         longest_file(),
     ];
     examples.extend([1, 2, 3, 4, 5, 64].into_iter().zip([0, 1, 2, 2, 3, 6]).map(doublings));
