@@ -14,6 +14,7 @@ use Rattle.laws.proofs.Refusals as refusals
 use Rattle.laws.proofs.Judging.{judged}
 use Rattle.laws.proofs.Runs.{runs}
 use Rattle.laws.proofs.Files as files
+use Rattle.laws.proofs.OneMore.{one-more, last-byte}
 use Rattle.laws.proofs.Doubling.{doublings-hold}
 
 pub all-laws : Laws
@@ -46,9 +47,10 @@ all-laws = record {
     read-leaves = refusals.untouched-read;
   };
   judged = judged;
+  one-more = one-more;
   read-write = files.read-write;
   write-read = files.write-read;
   longest = files.longest;
-  reached = record { four = four-reached; episode = episode-reached; longest = files.longest-reached };
+  reached = record { four = four-reached; episode = episode-reached; longest = files.longest-reached; last-byte = last-byte };
   doublings = doublings-hold;
 }

@@ -1,6 +1,6 @@
 -- Decimal digits: decimal n has room enough for every n, so its digits are those of n / 10 and then that of n % 10.
 use Prim.Native.Nat.{ℕ, zero, suc, _+_, _*_, _/_, _%_, _^_, _≤_, _<_}
-use mathlib.Core.Path.{_≡_, refl, _∙_}
+use mathlib.Core.Path.{_≡_, refl, ap, _∙_}
 use mathlib.Core.List.{List, [], _∷_, _++_}
 use mathlib.Core.Bool.{Bool, true, false}
 use lib.ListN.{length, length-append}
@@ -47,6 +47,29 @@ decimal-more n d z h =
     let e : (n * 10 + d) / 10 ≡ n = omega arith in
     let f : (n * 10 + d) % 10 ≡ d = omega arith in
     decimal-long (n * 10 + d) (omega arith) ∙ rw (e, f)
+
+-- a number's first digit
+pub record First (n : ℕ) : Type 0 where
+  pub digit : ℕ
+  pub small : digit < 10
+  pub more : List ℕ
+  pub spelled : decimal n ≡ (48 + digit) ∷ more
+
+first-in : (k n : ℕ) → n < 10 ^ suc k → First n
+first-in zero n h = record { digit = n; small = omega arith; more = []; spelled = decimal-one n (omega arith) }
+first-in (suc k) n h = by-cases (ltb n 10) refl (first-in k (n / 10) (omega arith))
+  where
+    by-cases : (t : Bool) → ltb n 10 ≡ t → First (n / 10) → First n
+    by-cases true e f = record { digit = n; small = ltb-true n 10 e; more = []; spelled = decimal-one n (ltb-true n 10 e) }
+    by-cases false e f = record {
+      digit = f .digit;
+      small = f .small;
+      more = f .more ++ (48 + n % 10) ∷ [];
+      spelled = decimal-long n (ltb-false n 10 e) ∙ ap (λ (l : List ℕ). l ++ (48 + n % 10) ∷ []) (f .spelled);
+    }
+
+pub first-digit : (n : ℕ) → First n
+first-digit n = first-in n n (below-power n)
 
 -- ---- how many digits
 

@@ -24,13 +24,13 @@ use Rattle.laws.proofs.Longest.{near-body, fullest, lastTurns, fullest-
 -- ---- read
 
 -- what is known of it
-record Read (bytes schedule : List ℕ) : Type 0 where
-  value : Settings × List ℕ
-  is : reading bytes schedule ≡ acceptedRead (value .0) (value .1) schedule
-  full : Full value
-  as-text : bytes ≡ written value
+pub record Read (bytes schedule : List ℕ) : Type 0 where
+  pub value : Settings × List ℕ
+  pub is : reading bytes schedule ≡ acceptedRead (value .0) (value .1) schedule
+  pub full : Full value
+  pub as-text : bytes ≡ written value
 
-was-read : (bytes schedule : List ℕ) → reading bytes schedule .answer .number ≡ 0 → Read bytes schedule
+pub was-read : (bytes schedule : List ℕ) → reading bytes schedule .answer .number ≡ 0 → Read bytes schedule
 unfolding readingOf
 was-read bytes schedule = go (file bytes 0) refl
   where

@@ -1,13 +1,13 @@
 -- Where a refusal with 3, 4 or 5 comes from: a number that was read to its separator and failed its test. Whatever that test refuses in the number's
 -- place, the file is refused for.
-use Prim.Native.Nat.{ℕ, zero, suc, _+_, _-_, _/_, _%_, _^_, _≤_, _<_}
+use Prim.Native.Nat.{ℕ, zero, suc, _+_, _-_, _^_, _≤_, _<_}
 use mathlib.Core.Path.{_≡_, refl, ap, sym, _∙_, subst}
 use mathlib.Core.List.{List, [], _∷_, _++_, append-assoc, append-nil}
-use mathlib.Core.Bool.{Bool, true, false, _&&_}
+use mathlib.Core.Bool.{Bool, false, _&&_}
 use mathlib.Core.Logic.{inl, inr}
 use lib.ListN.{length, length-append, set}
 use lib.Dec.{ltb, leb, eqb}
-use borrow.Author.Tests.{ne-eqb, lt-leb, le-ltb, ltb-true, ltb-false}
+use borrow.Author.Tests.{ne-eqb, lt-leb, le-ltb}
 use native.Mathlib.Omega.{arith}
 use Rattle.rules.specs.Bounds.{mostProcs, mostTicket, mostBudget, mostRounds, mostHold, mostTurns}
 use Rattle.rules.specs.Settings.{Settings}
@@ -15,14 +15,14 @@ use Rattle.rules.specs.Machines.{bytes, named, known}
 use Rattle.rules.specs.Rule.{Got, ok, fault, Rule, _>>=_, _>>_, give, checked, feed, comma, isDigit, lit, word, digits, number}
 use Rattle.rules.specs.File.{decimalIn, decimal, label, name, ranged, field, entries, rows, items, turns, Front, front, settings, rest, whole, file}
 use Rattle.rules.specs.Calls.{Reading, refusedRead, readingOf, reading}
-use Rattle.rules.proofs.Store.{either, by-test, false-true, and-false}
+use Rattle.rules.proofs.Store.{either, by-test, and-false}
 use Rattle.laws.specs.Laws.{Separator, Judged}
 use Rattle.laws.proofs.Exact.{not-ok, after-refuses, checked-refuses, same-number, Exact, exact-check, exact-lit, lit-refuses}
-use Rattle.laws.proofs.Decimal.{decimal-one, decimal-long, decimal-length, decimal-wider}
-use Rattle.laws.proofs.Numbers.{IsSep, Number, numberText, exact-number, number-refuses, not-sep, number-goes, roomBehind, digits-none, digits-wrong}
+use Rattle.laws.proofs.Decimal.{first-digit, decimal-one, decimal-length, decimal-wider}
+use Rattle.laws.proofs.Numbers.{IsSep, Number, numberText, exact-number, number-refuses, not-sep, number-fails, number-stops, roomBehind, digits-none, digits-wrong}
 use Rattle.laws.proofs.Names.{exact-name, word-refuses}
 use Rattle.laws.proofs.Whole.{Between, exact-ranged, exact-field, exact-entries, exact-rows}
-use Rattle.laws.proofs.Turns.{exact-turns}
+use Rattle.laws.proofs.Turns.{bare, turns-items, exact-turns}
 use Rattle.laws.proofs.Near.{width, width-is}
 use Rattle.laws.proofs.RoundTrip.{exact-front, exact-body, end-refuses}
 
@@ -171,19 +171,10 @@ blame-items (suc k) procs ts h =
     judge-then 4 (turn (λ v. ltb (v .0) procs) (λ v l. le-ltb (v .0) procs (omega arith))) (omega arith)
     (λ v. either (λ (r : Rule (List ℕ)). Blames r) (eqb (v .1) feed) _ _ (blame-give (ts ++ v .0 ∷ [])) (blame-items k procs (ts ++ v .0 ∷ []) h))
 
--- no number starts here
-abbrev bare : List ℕ → Bool
-bare [] = true
-bare (x ∷ s) = eqb x feed
-
-still-number : (before s u : List ℕ) (d : ℕ) → d < 10 → bare (before ++ s) ≡ false → bare (before ++ (48 + d) ∷ u) ≡ false
-still-number [] s u d h e = ne-eqb (48 + d) feed (λ z. omega arith)
-still-number (x ∷ before) s u d h e = e
-
-turns-items : (procs : ℕ) (s : List ℕ) (at : ℕ) → bare s ≡ false → turns procs s at ≡ items mostTurns procs [] s at
-unfolding turns
-turns-items procs [] at e = absurd (false-true (sym e))
-turns-items procs (x ∷ s) at e = rw e
+-- digits for a number leave a turn where one was
+still-turn : (before s u : List ℕ) (d : ℕ) → d < 10 → bare (before ++ s) ≡ false → bare (before ++ (48 + d) ∷ u) ≡ false
+still-turn [] s u d h e = ne-eqb (48 + d) feed (λ z. omega arith)
+still-turn (x ∷ before) s u d h e = e
 
 blame-turns : (procs : ℕ) → procs ≤ 10 ^ 5 → Blames (turns procs)
 unfolding turns
@@ -194,7 +185,7 @@ blame-turns procs h (x ∷ s) at k p l e =
     (λ t q.
     let b = blame-items mostTurns procs [] h (x ∷ s) at k p l q in
     let there : bare (b .before ++ (numberText (b .value) ++ b .behind)) ≡ false = rw (← b .is) t in
-    moved [] refl (omega arith) b (λ d u j o m c. turns-items procs _ at (still-number (b .before) _ u d m there) ∙ c))
+    moved [] refl (omega arith) b (λ d u j o m c. turns-items procs _ at (still-turn (b .before) _ u d m there) ∙ c))
     e
 
 field-then : {B : Type 0} {f : ℕ → Rule B} (l : List ℕ) (lo hi : ℕ) → hi < 10 ^ 5 → ((n : ℕ) → Between lo hi n → Blames (f n)) → Blames (_>>=_ (field l lo hi) f)
@@ -226,26 +217,6 @@ blame-file =
 
 -- ---- what is refused in a number's place
 
--- a number's first digit
-record First (n : ℕ) : Type 0 where
-  digit : ℕ
-  small : digit < 10
-  more : List ℕ
-  spelled : decimal n ≡ (48 + digit) ∷ more
-
-first-digit : (k n : ℕ) → n < 10 ^ suc k → First n
-first-digit zero n h = record { digit = n; small = omega arith; more = []; spelled = decimal-one n (omega arith) }
-first-digit (suc k) n h = by-cases (ltb n 10) refl (first-digit k (n / 10) (omega arith))
-  where
-    by-cases : (t : Bool) → ltb n 10 ≡ t → First (n / 10) → First n
-    by-cases true e f = record { digit = n; small = ltb-true n 10 e; more = []; spelled = decimal-one n (ltb-true n 10 e) }
-    by-cases false e f = record {
-      digit = f .digit;
-      small = f .small;
-      more = f .more ++ (48 + n % 10) ∷ [];
-      spelled = decimal-long n (ltb-false n 10 e) ∙ ap (λ (l : List ℕ). l ++ (48 + n % 10) ∷ []) (f .spelled);
-    }
-
 module _ (k p : ℕ) (t : Test) where
   na : isDigit (t .a) ≡ false
   na = plain _ (t .first)
@@ -255,13 +226,13 @@ module _ (k p : ℕ) (t : Test) where
 
   -- six to nine digits
   big : (n x : ℕ) (s : List ℕ) → 10 ^ 5 ≤ n → n < 10 ^ 9 → IsSep (t .a) (t .b) x → judge k t (decimal n ++ x ∷ s) p ≡ fault k p
-  big n x s l h e = rw (← append-assoc (decimal n) (x ∷ []) s, exact t .reads (n, x) (h, e) s p, t .fails (n, x) l)
+  big n x s l h e = number-fails (t .a) (t .b) na nb k (t .test) n x s p (omega arith) e (t .fails (n, x) l)
 
   -- digits after which the number cannot go on
   stops : (n : ℕ) (s : List ℕ) → n < 10 ^ 9
       → digits (t .a) (t .b) (roomBehind n) n s (p + length (decimal n)) ≡ fault 1 (p + length (decimal n))
       → judge k t (decimal n ++ s) p ≡ fault 1 (p + length (decimal n))
-  stops n s h e = rw (number-goes (t .a) (t .b) na nb n s p h, e)
+  stops n s h e = number-stops (t .a) (t .b) na nb k (t .test) n s p (omega arith) e
 
   -- a digit for which there is no room
   full : (n d : ℕ) (s : List ℕ) → n < 10 ^ 9 → d < 10 → roomBehind n ≡ 0 → judge k t (decimal n ++ (48 + d) ∷ s) p ≡ fault 1 (p + length (decimal n))
@@ -280,7 +251,7 @@ module _ (k p : ℕ) (t : Test) where
       apart y sy e = ns (subst Separator (sym e) sy)
 
 -- a number of nine digits
-nine : (n : ℕ) → 10 ^ 8 ≤ n → n < 10 ^ 9 → length (decimal n) ≡ 9
+pub nine : (n : ℕ) → 10 ^ 8 ≤ n → n < 10 ^ 9 → length (decimal n) ≡ 9
 unfolding width decimalIn
 nine n l h =
     let e : width (10 ^ 8) ≡ 9 = refl in
@@ -290,11 +261,11 @@ nine n l h =
 
 module _ (bytes schedule : List ℕ) (k p : ℕ) (x : Blame file bytes 0 k p) where
   -- what the test refuses in the number's place, read refuses
-  alike : (n : ℕ) (s : List ℕ) (j q : ℕ) → n < 10 ^ 9 → judge k (x .by) (decimal n ++ s) p ≡ fault j q
+  alike : (n : ℕ) (s : List ℕ) (j q : ℕ) → judge k (x .by) (decimal n ++ s) p ≡ fault j q
       → reading (x .before ++ (decimal n ++ s)) schedule ≡ refusedRead j q schedule
   unfolding readingOf
-  alike n s j q h e =
-      let f = first-digit 8 n h in
+  alike n s j q e =
+      let f = first-digit n in
       let c : judge k (x .by) ((48 + f .digit) ∷ f .more ++ s) p ≡ fault j q = rw (f .spelled) at e in
       rw (f .spelled, x .alike (f .digit) (f .more ++ s) j q (f .small) c)
 
@@ -307,13 +278,14 @@ module _ (bytes schedule : List ℕ) (k p : ℕ) (x : Blame file bytes 0 k p) wh
     is = x .is ∙ rw (append-assoc (decimal (x .value .0)) (x .value .1 ∷ []) (x .behind));
     at-first-digit = omega (arith, x .place);
     separates = among (x .value .1) (x .counts .1);
-    too-big = λ n s l h. alike n _ k p h (big k p (x .by) n _ s l h (x .counts .1));
+    too-big = λ n s l h. alike n _ k p (big k p (x .by) n _ s l (omega arith) (x .counts .1));
     tenth-digit = λ n d s l h m.
         let e = nine n l h in
-        rw (← e) (alike n _ 1 _ h (full k p (x .by) n d s h m (rw (ne-eqb n 0 (λ z. omega arith), e))));
-    leading-zero = λ d s m. rw (decimal-one 0 (omega arith)) at (alike 0 ((48 + d) ∷ s) 1 _ (omega arith) (full k p (x .by) 0 d s (omega arith) m refl));
-    ends = λ n h. rw (append-nil (decimal n)) at (alike n [] 1 _ h (cut k p (x .by) n h));
-    goes-wrong = λ n y s h ny ns. alike n _ 1 _ h (wrong k p (x .by) n y s h ny ns);
+        alike n _ 1 _ (full k p (x .by) n d s h m (rw (ne-eqb n 0 (λ z. omega arith), e)))
+        ∙ ap (λ (q : ℕ). refusedRead 1 q schedule) (omega arith);
+    leading-zero = λ d s m. rw (decimal-one 0 (omega arith)) at (alike 0 ((48 + d) ∷ s) 1 _ (full k p (x .by) 0 d s (omega arith) m refl));
+    ends = λ n h. rw (append-nil (decimal n)) at (alike n [] 1 _ (cut k p (x .by) n h));
+    goes-wrong = λ n y s h ny ns. alike n _ 1 _ (wrong k p (x .by) n y s h ny ns);
   }
     where
       among : (y : ℕ) → IsSep (x .by .a) (x .by .b) y → Separator y

@@ -26,4 +26,5 @@ pub mod Near
 pub mod Longest
 pub mod Judging
 pub mod Files
+pub mod OneMore
 pub mod All

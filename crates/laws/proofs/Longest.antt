@@ -85,6 +85,10 @@ fullest = record {
 pub lastTurns : List ℕ
 lastTurns = replicate mostTurns lastProc
 
+pub all-turns : length lastTurns ≡ mostTurns
+unfolding lastTurns
+all-turns = length-replicate mostTurns lastProc
+
 same-row : (n m : ℕ) → Row n m (replicate n m)
 same-row n m = record {
   fits = λ i h. omega (arith, getD-replicate n i m 0 h);
@@ -107,7 +111,7 @@ fullest-full = record {
     budget = omega arith;
     rounds = same-row mostProcs mostRounds;
     hold = same-row mostProcs mostHold;
-    few = omega (arith, length-replicate mostTurns lastProc);
+    few = omega (arith, all-turns);
     turns-below = same-below mostProcs mostTurns lastProc (omega arith);
   };
   rounds-long = length-replicate mostProcs mostRounds;

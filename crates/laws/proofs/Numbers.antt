@@ -11,7 +11,7 @@ use native.Mathlib.Nat.{add-assoc, pow-le-pow-right}
 use native.Mathlib.Omega.{arith}
 use Rattle.rules.specs.Memory.{pick}
 use Rattle.rules.specs.Bounds.{mostDigits}
-use Rattle.rules.specs.Rule.{Got, ok, fault, isDigit, digits, number}
+use Rattle.rules.specs.Rule.{Got, ok, fault, checked, isDigit, digits, number}
 use Rattle.rules.specs.File.{decimal}
 use Rattle.rules.proofs.Store.{both, false-true, either, by-test}
 use Rattle.laws.proofs.Exact.{not-fault, not-ok, on-pick, pick-refuses, same-number, Exact}
@@ -218,7 +218,7 @@ module _ (a b : ℕ) (na : isDigit a ≡ false) (nb : isDigit b ≡ false) where
           let f : n / 10 * 10 + n % 10 ≡ n = omega arith in
           subst (λ (j : ℕ). Goes j s at) f (goes-more (n / 10) (n % 10) s at (omega arith) (omega arith) (l g) (ih g))
 
-  pub number-goes : (n : ℕ) (s : List ℕ) (at : ℕ) → n < 10 ^ mostDigits
+  number-goes : (n : ℕ) (s : List ℕ) (at : ℕ) → n < 10 ^ mostDigits
       → number a b (decimal n ++ s) at ≡ digits a b (roomBehind n) n s (at + length (decimal n))
   number-goes zero s at h = rw (decimal-one 0 (omega arith)) (number-first 0 s at (omega arith))
   number-goes (suc n) s at h = rw (ne-eqb (suc n) 0 (λ e. omega arith)) (goes (mostDigits - 1) (suc n) s at (omega arith) (omega arith) h)
@@ -233,6 +233,17 @@ module _ (a b : ℕ) (na : isDigit a ≡ false) (nb : isDigit b ≡ false) where
         length-append,
         add-assoc,
       )
+
+  -- a number that fails its test
+  pub number-fails : (k : ℕ) (test : ℕ × ℕ → Bool) (n x : ℕ) (s : List ℕ) (at : ℕ) → n < 10 ^ mostDigits → IsSep a b x → test (n, x) ≡ false
+      → checked k test (number a b) (decimal n ++ x ∷ s) at ≡ fault k at
+  number-fails k test n x s at h e f = rw (number-goes n (x ∷ s) at h, digits-end (roomBehind n) n x s (at + length (decimal n)) e, f)
+
+  -- digits after which the number cannot go on
+  pub number-stops : (k : ℕ) (test : ℕ × ℕ → Bool) (n : ℕ) (s : List ℕ) (at : ℕ) → n < 10 ^ mostDigits
+      → digits a b (roomBehind n) n s (at + length (decimal n)) ≡ fault 1 (at + length (decimal n))
+      → checked k test (number a b) (decimal n ++ s) at ≡ fault 1 (at + length (decimal n))
+  number-stops k test n s at h e = rw (number-goes n s at h, e)
 
   pub exact-number : Exact (number a b) numberText (Number a b)
   exact-number = record {

@@ -14,8 +14,8 @@ use Rattle.rules.specs.File.{Front, front, settings, rest, whole, file, fieldTe
 use Rattle.rules.proofs.Accepted.{Row, Accepted}
 use Rattle.laws.proofs.Exact.{not-fault, not-ok, on-after, after-refuses, same-number, Exact, exact-then, exact-give, exact-as, exact-lit}
 use Rattle.laws.proofs.Names.{exact-name}
-use Rattle.laws.proofs.Whole.{Agree, exact-field, exact-rows}
-use Rattle.laws.proofs.Turns.{exact-turns}
+use Rattle.laws.proofs.Whole.{Agree, Rows, exact-field, exact-rows}
+use Rattle.laws.proofs.Turns.{Turns, exact-turns}
 
 -- ---- the rows
 
@@ -101,8 +101,22 @@ pub record Full (v : Settings × List ℕ) : Type 0 where
   pub rounds-long : length (v .0 .rounds) ≡ mostProcs
   pub hold-long : length (v .0 .hold) ≡ mostProcs
 
-abbrev opening : Settings → Front
+abbrev pub opening : Settings → Front
 opening s = record { algo = s .algo; procs = s .procs; home = s .home; ticket = s .ticket; budget = s .budget }
+
+module _ (v : Settings × List ℕ) (w : Full v) where
+  a : Accepted (v .0) (v .1)
+  a = w .accepted
+
+  pub full-opened : Opened (opening (v .0))
+  full-opened =
+      record { algo = a .algo; procs-low = a .procs-low; procs-high = a .procs-high; home = a .home; ticket = a .ticket; budget = a .budget }
+
+  pub full-rows : Rows (v .0 .procs) 0 zeros zeros (v .0 .rounds, v .0 .hold)
+  full-rows = record { of-rounds = row-agree _ _ _ (w .rounds-long) (a .rounds); of-hold = row-agree _ _ _ (w .hold-long) (a .hold) }
+
+  pub full-turns : Turns (v .0 .procs) (v .1)
+  full-turns = (a .turns-below, a .few)
 
 pub exact-body : Exact body written Full
 unfolding rest text frontText
@@ -136,14 +150,7 @@ exact-body =
       rounds-long = q .0 .of-rounds .long;
       hold-long = q .0 .of-hold .long;
     })
-    (λ v w.
-    let a = w .accepted in (
-      record { algo = a .algo; procs-low = a .procs-low; procs-high = a .procs-high; home = a .home; ticket = a .ticket; budget = a .budget },
-      (
-        record { of-rounds = row-agree _ _ _ (w .rounds-long) (a .rounds); of-hold = row-agree _ _ _ (w .hold-long) (a .hold) },
-        (tt, ((a .turns-below, a .few), refl)),
-      ),
-    ))
+    (λ v w. (full-opened v w, (full-rows v w, (tt, (full-turns v w, refl)))))
     (λ v w. simp (append-assoc, append-nil))
 
 -- ---- the file

@@ -1,20 +1,22 @@
 -- The turns: they are read exactly where they are written.
-use Prim.Native.Nat.{ℕ, zero, suc, _+_, _^_, _≤_, _<_}
-use mathlib.Core.Path.{_≡_, refl, sym, _∙_, subst}
+use Prim.Native.Nat.{ℕ, zero, suc, _+_, _-_, _^_, _≤_, _<_}
+use mathlib.Core.Path.{_≡_, refl, sym, _∙_}
 use mathlib.Core.List.{List, [], _∷_, _++_, append-assoc}
 use mathlib.Core.Bool.{Bool, true, false}
 use mathlib.Core.Logic.{inl, inr}
 use lib.ListN.{length, length-append}
 use lib.Dec.{ltb, eqb}
-use borrow.Author.Tests.{eqb-true, eqb-false, lt-ltb, ltb-true}
+use borrow.Author.Tests.{ne-eqb, eqb-true, eqb-false, lt-ltb, ltb-true}
 use native.Mathlib.Nat.{add-assoc}
 use native.Mathlib.Omega.{arith}
+use Rattle.rules.specs.Memory.{pick}
 use Rattle.rules.specs.Bounds.{mostTurns, mostDigits}
-use Rattle.rules.specs.Rule.{Got, ok, fault, Rule, feed, comma, checked, number}
+use Rattle.rules.specs.Rule.{Got, ok, fault, Rule, give, feed, comma, checked, number}
 use Rattle.rules.specs.File.{decimal, items, turns, turnsText}
 use Rattle.rules.proofs.Store.{by-test, false-true}
 use Rattle.rules.proofs.Accepted.{Below}
 use Rattle.laws.proofs.Exact.{not-fault, not-ok, on-after, pick-refuses, after-refuses, same-number, Exact, exact-check}
+use Rattle.laws.proofs.Decimal.{first-digit}
 use Rattle.laws.proofs.Numbers.{IsSep, Number, numberText, exact-number}
 
 -- a number of the schedule, and its separator, where the number passes a test
@@ -33,18 +35,34 @@ turn-reads : (procs t x : ℕ) (s : List ℕ) (at : ℕ) → procs ≤ 10 ^ most
     → checked 4 (turn procs) (number comma feed) ((decimal t ++ x ∷ []) ++ s) at ≡ ok (t, x) s (at + length (decimal t ++ x ∷ []))
 turn-reads procs t x s at hp h p = exact-turn procs .reads (t, x) ((omega arith, p), lt-ltb t procs h) s at
 
-items-reads : (k procs : ℕ) (ts : List ℕ) (t : ℕ) (us : List ℕ) → procs ≤ 10 ^ mostDigits → Below procs (t ∷ us) → length (t ∷ us) ≤ k
-    → (s : List ℕ) (at : ℕ) → items k procs ts (turnsText (t ∷ us) ++ s) at ≡ ok (ts ++ t ∷ us) s (at + length (turnsText (t ∷ us)))
-unfolding items turnsText
-items-reads zero procs ts t us hp b c s at = absurd (omega arith)
-items-reads (suc k) procs ts t [] hp b c s at = rw (turn-reads procs t feed s at hp (b .0) (inr refl))
-items-reads (suc k) procs ts t (u ∷ us) hp b c s at =
+-- the turns and x in place of the last line feed
+unfoldable pub endedBy : ℕ → List ℕ → List ℕ
+endedBy x [] = x ∷ []
+endedBy x (t ∷ []) = decimal t ++ x ∷ []
+endedBy x (t ∷ u ∷ ts) = (decimal t ++ comma ∷ []) ++ endedBy x (u ∷ ts)
+
+pub ended-by-feed : (ts : List ℕ) → turnsText ts ≡ endedBy feed ts
+unfolding turnsText endedBy
+ended-by-feed [] = refl
+ended-by-feed (t ∷ []) = refl
+ended-by-feed (t ∷ u ∷ ts) = rw (ended-by-feed (u ∷ ts))
+
+-- after these turns: with a line feed they were all, with a comma there are more
+items-go : (k procs : ℕ) (ts : List ℕ) (t : ℕ) (us : List ℕ) (x : ℕ) → procs ≤ 10 ^ mostDigits → Below procs (t ∷ us) → length (t ∷ us) ≤ k → IsSep comma feed x
+    → (s : List ℕ) (at : ℕ) → items k procs ts (endedBy x (t ∷ us) ++ s) at
+    ≡ pick (eqb x feed) (give (ts ++ t ∷ us)) (items (k - length (t ∷ us)) procs (ts ++ t ∷ us)) s (at + length (endedBy x (t ∷ us)))
+unfolding items endedBy
+items-go zero procs ts t us x hp b c e s at = absurd (omega arith)
+items-go (suc k) procs ts t [] x hp b c e s at = let z : suc k - 1 ≡ k = omega arith in rw (turn-reads procs t x s at hp (b .0) e, z)
+items-go (suc k) procs ts t (u ∷ us) x hp b c e s at =
+    let z : suc k - length (t ∷ u ∷ us) ≡ k - length (u ∷ us) = omega arith in
     rw (
-      append-assoc (decimal t ++ comma ∷ []) (turnsText (u ∷ us)) s,
-      turn-reads procs t comma (turnsText (u ∷ us) ++ s) at hp (b .0) (inl refl),
-      items-reads k procs (ts ++ t ∷ []) u us hp (b .1) (omega arith) s (at + length (decimal t ++ comma ∷ [])),
+      z,
+      append-assoc (decimal t ++ comma ∷ []) (endedBy x (u ∷ us)) s,
+      turn-reads procs t comma (endedBy x (u ∷ us) ++ s) at hp (b .0) (inl refl),
+      items-go k procs (ts ++ t ∷ []) u us x hp (b .1) (omega arith) e s (at + length (decimal t ++ comma ∷ [])),
       append-assoc ts (t ∷ []) (u ∷ us),
-      length-append (decimal t ++ comma ∷ []) (turnsText (u ∷ us)),
+      length-append (decimal t ++ comma ∷ []) (endedBy x (u ∷ us)),
       add-assoc,
     )
 
@@ -119,20 +137,33 @@ no-turns : (procs x : ℕ) (ts s s′ : List ℕ) → x ≡ feed → ts ≡ [] �
 unfolding turnsText
 no-turns procs x ts s s′ e f g = rw (e, f, g) (refl, (tt, omega arith))
 
--- a number starts with no line feed
-turns-of-items : (procs : ℕ) (s : List ℕ) (at : ℕ) (us s′ : List ℕ) (at′ : ℕ) → items mostTurns procs [] s at ≡ ok us s′ at′ → turns procs s at ≡ ok us s′ at′
-unfolding turns items number
-turns-of-items procs [] at us s′ at′ e = absurd (not-fault us s′ at′ 1 at e)
-turns-of-items procs (x ∷ s) at us s′ at′ e =
-    by-test (λ (g : Got (List ℕ)). g ≡ ok us s′ at′) (eqb x feed) _ _
-    (λ t. absurd (not-fault us s′ at′ 1 at (subst (λ (y : ℕ). items mostTurns procs [] (y ∷ s) at ≡ ok us s′ at′) (eqb-true x feed t) e)))
-    (λ t. e)
+-- nothing, or a line feed: no turn starts here
+abbrev pub bare : List ℕ → Bool
+bare [] = true
+bare (x ∷ s) = eqb x feed
+
+pub turns-items : (procs : ℕ) (s : List ℕ) (at : ℕ) → bare s ≡ false → turns procs s at ≡ items mostTurns procs [] s at
+unfolding turns
+turns-items procs [] at e = absurd (false-true (sym e))
+turns-items procs (x ∷ s) at e = rw e
+
+digit-not-bare : (t : ℕ) (s : List ℕ) → bare (decimal t ++ s) ≡ false
+digit-not-bare t s = let f = first-digit t in rw (f .spelled) (ne-eqb (48 + f .digit) feed (λ e. omega arith))
+
+ended-not-bare : (x t : ℕ) (us s : List ℕ) → bare (endedBy x (t ∷ us) ++ s) ≡ false
+unfolding endedBy
+ended-not-bare x t [] s = rw (append-assoc (decimal t) (x ∷ []) s) (digit-not-bare t (x ∷ s))
+ended-not-bare x t (u ∷ us) s = simp append-assoc (digit-not-bare t (comma ∷ (endedBy x (u ∷ us) ++ s)))
 
 module _ (procs : ℕ) (hp : procs ≤ 10 ^ mostDigits) where
+  pub turns-go : (t : ℕ) (us : List ℕ) (x : ℕ) → Turns procs (t ∷ us) → IsSep comma feed x → (s : List ℕ) (at : ℕ) → turns procs (endedBy x (t ∷ us) ++ s) at
+      ≡ pick (eqb x feed) (give (t ∷ us)) (items (mostTurns - length (t ∷ us)) procs (t ∷ us)) s (at + length (endedBy x (t ∷ us)))
+  turns-go t us x h e s at = turns-items procs _ at (ended-not-bare x t us s) ∙ items-go mostTurns procs [] t us x hp (h .0) (h .1) e s at
+
   turns-reads : (ts : List ℕ) → Turns procs ts → (s : List ℕ) (at : ℕ) → turns procs (turnsText ts ++ s) at ≡ ok ts s (at + length (turnsText ts))
   unfolding turns turnsText
   turns-reads [] h s at = refl
-  turns-reads (t ∷ ts) h s at = turns-of-items procs _ at (t ∷ ts) s _ (items-reads mostTurns procs [] t ts hp (h .0) (h .1) s at)
+  turns-reads (t ∷ ts) h s at = rw (ended-by-feed (t ∷ ts)) (turns-go t ts feed h (inr refl) s at)
 
   turns-was : (s : List ℕ) (at : ℕ) (ts s′ : List ℕ) (at′ : ℕ) → turns procs s at ≡ ok ts s′ at′ → (s ≡ turnsText ts ++ s′) × Turns procs ts
   unfolding turns turnsText

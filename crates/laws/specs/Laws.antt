@@ -333,6 +333,19 @@ pub record Refusals : Type 0 where
       r .answer .number ≡ suc n
       → r ≡ record { answer = record { number = suc n; place = r .answer .place; settings = noSettings; count = 0 }; schedule = schedule })
 
+-- one turn more at the end of an accepted file: a comma in place of the last line feed, a number of up to nine digits, its separator
+pub record OneMore : Type 0 where
+  -- where the count is passed it is 5, whatever the number
+  pub too-many : (l after schedule : List ℕ) (n x : ℕ)
+      → (let r : Reading = reading (l ++ feed ∷ []) schedule in
+      r .answer .number ≡ 0 → r .answer .count ≡ mostTurns → n < 10 ^ 9 → Separator x
+      → reading (l ++ comma ∷ (decimal n ++ x ∷ after)) schedule ≡ refusedRead 5 (length l + 1) schedule)
+  -- otherwise, where the number is not below procs, it is 4
+  pub stray : (l after schedule : List ℕ) (n x : ℕ)
+      → (let r : Reading = reading (l ++ feed ∷ []) schedule in
+      r .answer .number ≡ 0 → 0 < r .answer .count → r .answer .count < mostTurns → settingsOf r .procs ≤ n → n < 10 ^ 9 → Separator x
+      → reading (l ++ comma ∷ (decimal n ++ x ∷ after)) schedule ≡ refusedRead 4 (length l + 1) schedule)
+
 pub record Longest : Type 0 where
   pub at-most : (bytes schedule : List ℕ) → reading bytes schedule .answer .number ≡ 0 → length bytes ≤ longestFile
   -- no answer of read, and no number that it leaves in the schedule, goes by a byte from `farthest` on
@@ -345,6 +358,9 @@ pub record Reached : Type 0 where
   -- an episode of the tree barrier: all seven have done their one passage, for 2 * 7 - 2 remote references in all
   pub episode : (let r : Run tree.State = whole tree.machine sevenBoards sevenTurns in (sum (r .course .done) 7 ≡ 7) × (r .tally .total ≡ 12))
   pub longest : (bytes : List ℕ) × (length bytes ≡ longestFile) × (reading bytes (replicate mostTurns 0) .answer .number ≡ 0)
+  -- the last byte that read goes by
+  pub last-byte : (bytes : List ℕ) × (length (bytes ++ feed ∷ []) ≡ farthest)
+      × (reading (bytes ++ feed ∷ []) (replicate mostTurns 0) ≢ reading bytes (replicate mostTurns 0))
 
 -- the tree barrier, with any number of processors. Processor i is in no passage where its next step is step 1
 pub record TreePrice : Type 0 where
@@ -398,6 +414,8 @@ pub record Laws : Type 1 where
   -- read gives 3, 4 and 5 at a number that it has read to its separator; one of six to nine digits in its place is refused alike
   pub judged : (bytes schedule : List ℕ) (number place : ℕ) → 3 ≤ number → number ≤ 5
       → reading bytes schedule ≡ refusedRead number place schedule → Judged bytes schedule number place
+  -- read's 4 and 5, at the end of an accepted file
+  pub one-more : OneMore
   -- what read accepted, write gives back byte for byte where it has room
   pub read-write : (bytes schedule out : List ℕ)
       → (let r : Reading = reading bytes schedule in
