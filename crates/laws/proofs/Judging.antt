@@ -97,8 +97,15 @@ plain : (x : ℕ) → Separator x → isDigit x ≡ false
 plain x (inl e) = rw e
 plain x (inr e) = rw e
 
-exact : (t : Test) → Exact (number (t .a) (t .b)) numberText (Number (t .a) (t .b))
-exact t = exact-number (t .a) (t .b) (plain _ (t .first)) (plain _ (t .second))
+module _ (t : Test) where
+  na : isDigit (t .a) ≡ false
+  na = plain _ (t .first)
+
+  nb : isDigit (t .b) ≡ false
+  nb = plain _ (t .second)
+
+  exact : Exact (number (t .a) (t .b)) numberText (Number (t .a) (t .b))
+  exact = exact-number (t .a) (t .b) na nb
 
 -- a number that has to pass a test
 blame-judge : (n : ℕ) (t : Test) → Blames (judge n t)
@@ -218,25 +225,19 @@ blame-file =
 -- ---- what is refused in a number's place
 
 module _ (k p : ℕ) (t : Test) where
-  na : isDigit (t .a) ≡ false
-  na = plain _ (t .first)
-
-  nb : isDigit (t .b) ≡ false
-  nb = plain _ (t .second)
-
   -- six to nine digits
   big : (n x : ℕ) (s : List ℕ) → 10 ^ 5 ≤ n → n < 10 ^ 9 → IsSep (t .a) (t .b) x → judge k t (decimal n ++ x ∷ s) p ≡ fault k p
-  big n x s l h e = number-fails (t .a) (t .b) na nb k (t .test) n x s p (omega arith) e (t .fails (n, x) l)
+  big n x s l h e = number-fails (t .a) (t .b) (na t) (nb t) k (t .test) n x s p (omega arith) e (t .fails (n, x) l)
 
   -- digits after which the number cannot go on
   stops : (n : ℕ) (s : List ℕ) → n < 10 ^ 9
       → digits (t .a) (t .b) (roomBehind n) n s (p + length (decimal n)) ≡ fault 1 (p + length (decimal n))
       → judge k t (decimal n ++ s) p ≡ fault 1 (p + length (decimal n))
-  stops n s h e = number-stops (t .a) (t .b) na nb k (t .test) n s p (omega arith) e
+  stops n s h e = number-stops (t .a) (t .b) (na t) (nb t) k (t .test) n s p (omega arith) e
 
   -- a digit for which there is no room
   full : (n d : ℕ) (s : List ℕ) → n < 10 ^ 9 → d < 10 → roomBehind n ≡ 0 → judge k t (decimal n ++ (48 + d) ∷ s) p ≡ fault 1 (p + length (decimal n))
-  full n d s h l e = stops n ((48 + d) ∷ s) h (rw e (digits-wrong (t .a) (t .b) 0 n (48 + d) s _ (not-sep (t .a) (t .b) na nb d l) refl))
+  full n d s h l e = stops n ((48 + d) ∷ s) h (rw e (digits-wrong (t .a) (t .b) 0 n (48 + d) s _ (not-sep (t .a) (t .b) (na t) (nb t) d l) refl))
 
   cut : (n : ℕ) → n < 10 ^ 9 → judge k t (decimal n ++ []) p ≡ fault 1 (p + length (decimal n))
   cut n h = stops n [] h (digits-none (t .a) (t .b) (roomBehind n) n _)
@@ -278,6 +279,7 @@ module _ (bytes schedule : List ℕ) (k p : ℕ) (x : Blame file bytes 0 k p) wh
     is = x .is ∙ rw (append-assoc (decimal (x .value .0)) (x .value .1 ∷ []) (x .behind));
     at-first-digit = omega (arith, x .place);
     separates = among (x .value .1) (x .counts .1);
+    up-to-nine = omega (arith, x .counts .0);
     too-big = λ n s l h. alike n _ k p (big k p (x .by) n _ s l (omega arith) (x .counts .1));
     tenth-digit = λ n d s l h m.
         let e = nine n l h in
@@ -299,9 +301,9 @@ judged bytes schedule number place lo hi = go (file bytes 0) refl
   where
     go : (g : Got (Settings × List ℕ)) → file bytes 0 ≡ g → readingOf g schedule ≡ refusedRead number place schedule → Judged bytes schedule number place
     go (ok v s at) e q =
-        absurd (by-test (λ (r : Reading). r ≡ refusedRead number place schedule → ⊥) (leb (length (v .1)) (length schedule)) _ _
-        (λ t r. omega (arith, ap (λ (a : Reading). a .answer .number) r))
-        (λ t r. omega (arith, ap (λ (a : Reading). a .answer .number) r))
+        absurd (either (λ (r : Reading). r ≡ refusedRead number place schedule → ⊥) (leb (length (v .1)) (length schedule)) _ _
+        (λ r. omega (arith, ap (λ (a : Reading). a .answer .number) r))
+        (λ r. omega (arith, ap (λ (a : Reading). a .answer .number) r))
         q)
     go (fault n p) e q =
         let en : n ≡ number = ap (λ (a : Reading). a .answer .number) q in

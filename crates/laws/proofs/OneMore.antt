@@ -1,5 +1,5 @@
 -- One turn more at the end of an accepted file, and so how far read looks.
-use Prim.Native.Nat.{ℕ, suc, _+_, _-_, _^_, _≤_, _<_}
+use Prim.Native.Nat.{ℕ, zero, suc, _+_, _-_, _^_, _≤_, _<_}
 use mathlib.Core.Path.{_≡_, refl, ap, sym, _∙_, subst}
 use mathlib.Core.Logic.{_≢_, inl, inr}
 use mathlib.Core.List.{List, [], _∷_, _++_, append-assoc, append-nil, append-cancel-right}
@@ -11,7 +11,7 @@ use native.Mathlib.Omega.{arith}
 use Rattle.rules.specs.Bounds.{mostTurns}
 use Rattle.rules.specs.Settings.{Settings, zeros}
 use Rattle.rules.specs.Machines.{bytes}
-use Rattle.rules.specs.Rule.{fault, _>>=_, feed, comma, checked, number}
+use Rattle.rules.specs.Rule.{fault, Rule, _>>=_, feed, comma, checked, number}
 use Rattle.rules.specs.File.{decimal, rowsText, turnsText, items, turns, rest, whole, file, text}
 use Rattle.rules.specs.Calls.{Reading, refusedRead, readingOf, reading}
 use Rattle.laws.specs.Laws.{Separator, OneMore, settingsOf, farthest}
@@ -62,6 +62,16 @@ module _ (v : Settings × List ℕ) (h : Full v) where
 
 -- ---- one turn more
 
+-- how the next turn is judged where there may be k more
+abbrev next : ℕ → ℕ → Rule (ℕ × ℕ)
+next zero procs = checked 5 (λ v. false) (number comma feed)
+next (suc k) procs = checked 4 (λ v. ltb (v .0) procs) (number comma feed)
+
+next-refused : (k procs : ℕ) (ts u : List ℕ) (at n p : ℕ) → next k procs u at ≡ fault n p → items k procs ts u at ≡ fault n p
+unfolding items
+next-refused zero procs ts u at n p e = rw e
+next-refused (suc k) procs ts u at n p e = rw e
+
 -- all but the end
 ended-last : (ts : List ℕ) → (m : List ℕ) × ((x : ℕ) → endedBy x ts ≡ m ++ x ∷ [])
 unfolding endedBy
@@ -96,36 +106,27 @@ module _ (s : Settings) (t : List ℕ) (h : Full (s, t)) (z : 0 < length t) (sch
   abbrev l : List ℕ
   l = upToEnd (s, t)
 
-  -- any number where the count is passed
-  many : (u : List ℕ) (j q : ℕ) → length t ≡ mostTurns → checked 5 (λ v. false) (number comma feed) u (length l + 1) ≡ fault j q
+  refused : (k : ℕ) (u : List ℕ) (j q : ℕ) → mostTurns - length t ≡ k → next k (s .procs) u (length l + 1) ≡ fault j q
       → reading (l ++ comma ∷ u) schedule ≡ refusedRead j q schedule
-  unfolding items readingOf
-  many u j q c e =
-      let none : mostTurns - length t ≡ 0 = omega arith in
-      rw (more s t h z u j q (rw (none, e)))
-
-  -- a number not below procs where it is not
-  strays : (u : List ℕ) (j q : ℕ) → length t < mostTurns → checked 4 (λ v. ltb (v .0) (s .procs)) (number comma feed) u (length l + 1) ≡ fault j q
-      → reading (l ++ comma ∷ u) schedule ≡ refusedRead j q schedule
-  unfolding items readingOf
-  strays u j q c e =
-      let some : mostTurns - length t ≡ suc (mostTurns - length t - 1) = omega arith in
-      rw (more s t h z u j q (rw (some, e)))
+  unfolding readingOf
+  refused k u j q c e = rw (more s t h z u j q (rw c (next-refused k (s .procs) t u _ j q e)))
 
   many-turns : (after : List ℕ) (n x : ℕ) → length t ≡ mostTurns → n < 10 ^ 9 → Separator x
       → reading (l ++ comma ∷ (decimal n ++ x ∷ after)) schedule ≡ refusedRead 5 (length l + 1) schedule
-  many-turns after n x c b e = many _ 5 _ c (number-fails comma feed refl refl 5 (λ v. false) n x after _ (omega arith) e refl)
+  many-turns after n x c b e = refused 0 _ 5 _ (omega arith) (number-fails comma feed refl refl 5 (λ v. false) n x after _ (omega arith) e refl)
 
   stray-turn : (after : List ℕ) (n x : ℕ) → length t < mostTurns → s .procs ≤ n → n < 10 ^ 9 → Separator x
       → reading (l ++ comma ∷ (decimal n ++ x ∷ after)) schedule ≡ refusedRead 4 (length l + 1) schedule
-  stray-turn after n x c f b e = strays _ 4 _ c (number-fails comma feed refl refl 4 (λ v. ltb (v .0) (s .procs)) n x after _ (omega arith) e (le-ltb n (s .procs) f))
+  stray-turn after n x c f b e =
+      refused (suc (mostTurns - length t - 1)) _ 4 _ (omega arith)
+      (number-fails comma feed refl refl 4 (λ v. ltb (v .0) (s .procs)) n x after _ (omega arith) e (le-ltb n (s .procs) f))
 
   -- a number past the count that nothing follows
   cut-turn : (n : ℕ) → length t ≡ mostTurns → n < 10 ^ 9
       → reading (l ++ comma ∷ decimal n) schedule ≡ refusedRead 1 (length l + 1 + length (decimal n)) schedule
   cut-turn n c b =
       rw (append-nil (decimal n)) at
-      (many (decimal n ++ []) 1 _ c (number-stops comma feed refl refl 5 (λ v. false) n [] _ (omega arith) (digits-none comma feed (roomBehind n) n _)))
+      (refused 0 (decimal n ++ []) 1 _ (omega arith) (number-stops comma feed refl refl 5 (λ v. false) n [] _ (omega arith) (digits-none comma feed (roomBehind n) n _)))
 
 -- what is said of an accepted file, said of its text
 of-text : (l schedule : List ℕ) (X : List ℕ → Type 0) → reading (l ++ feed ∷ []) schedule .answer .number ≡ 0

@@ -191,6 +191,7 @@ pub record Judged (bytes schedule : List ℕ) (number place : ℕ) : Type 0 wher
   pub is : bytes ≡ before ++ (decimal value ++ separator ∷ behind)
   pub at-first-digit : place ≡ length before
   pub separates : Separator separator
+  pub up-to-nine : value < 10 ^ 9
   -- a number of six to nine digits, with the same number at the same place
   pub too-big : (n : ℕ) (after : List ℕ) → 10 ^ 5 ≤ n → n < 10 ^ 9
       → reading (before ++ (decimal n ++ separator ∷ after)) schedule ≡ refusedRead number place schedule
