@@ -10,12 +10,13 @@ const STRANGE: &[u8] = b"\0\t\n\r +-,./0:;=AZ`amz{\x7f\x80\xb5\xc3\xff";
 
 pub fn any(dice: &mut Dice) -> Vec<u8> {
     let mut draft = if dice.chance(90) { whole::short(dice) } else { whole::any(dice) };
-    match dice.below(22) {
+    match dice.below(24) {
         0..=4 => boundary(dice, &mut draft),
         5 => return bad_name(dice, draft),
         6 => plan_lines(dice, &mut draft),
         7 => bad_turn(dice, &mut draft),
         8 => return full_schedule(dice, draft),
+        9 | 10 => return any_number(dice, draft.bytes()),
         _ => return bytewise(dice, draft.bytes()),
     }
     let file = draft.bytes();
@@ -268,6 +269,16 @@ fn spoil(dice: &mut Dice, file: &mut Vec<u8>, at: usize) {
     } else {
         file.insert(at, strange_byte(dice));
     }
+}
+
+/// A number of any length in place of one, sometimes with its separator
+/// spoilt.
+fn any_number(dice: &mut Dice, mut file: Vec<u8>) -> Vec<u8> {
+    let end = change_number(dice, &mut file, any_length);
+    if dice.chance(30) {
+        spoil(dice, &mut file, end);
+    }
+    file
 }
 
 /// A number that is mostly out of its range, with its separator spoilt.
