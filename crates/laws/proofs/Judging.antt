@@ -3,7 +3,7 @@
 use Prim.Native.Nat.{ℕ, zero, suc, _+_, _-_, _^_, _≤_, _<_}
 use mathlib.Core.Path.{_≡_, refl, ap, sym, _∙_, subst}
 use mathlib.Core.List.{List, [], _∷_, _++_, append-assoc, append-nil}
-use mathlib.Core.Bool.{Bool, false, _&&_}
+use mathlib.Core.Bool.{Bool, false, _&&_, and-false}
 use mathlib.Core.Logic.{inl, inr}
 use lib.ListN.{length, length-append, set}
 use lib.Dec.{ltb, leb, eqb}
@@ -15,7 +15,7 @@ use Rattle.rules.specs.Machines.{bytes, named, known}
 use Rattle.rules.specs.Rule.{Got, ok, fault, Rule, _>>=_, _>>_, give, checked, feed, comma, isDigit, lit, word, digits, number}
 use Rattle.rules.specs.File.{decimalIn, decimal, label, name, ranged, field, entries, rows, items, turns, Front, front, settings, rest, whole, file}
 use Rattle.rules.specs.Calls.{Reading, refusedRead, readingOf, reading}
-use Rattle.rules.proofs.Store.{either, by-test, and-false}
+use Rattle.rules.proofs.Store.{either, by-test}
 use Rattle.laws.specs.Laws.{Separator, Judged}
 use Rattle.laws.proofs.Exact.{not-ok, after-refuses, checked-refuses, same-number, Exact, exact-check, exact-lit, lit-refuses}
 use Rattle.laws.proofs.Decimal.{first-digit, decimal-one, decimal-length, decimal-wider}

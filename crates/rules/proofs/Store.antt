@@ -45,10 +45,6 @@ pub both : (a b : Bool) → (a && b) ≡ true → (a ≡ true) × (b ≡ true)
 both true b e = (refl, e)
 both false b e = absurd (false-true e)
 
-pub and-false : (a : Bool) → (a && false) ≡ false
-and-false true = refl
-and-false false = refl
-
 pub left-of : (a b : Bool) → (a && b) ≡ true → a ≡ true
 left-of a b e = both a b e .0
 

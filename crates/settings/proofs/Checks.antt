@@ -17,7 +17,6 @@ use Rattle.rules.specs.Bounds.{mostProcs, mostTicket, mostBudget, mostRounds, m
 use Rattle.rules.specs.Settings as rules
 use Rattle.rules.specs.Machines.{machines, numbered, known}
 use Rattle.rules.specs.Calls.{inRow, inRange, allBelow, refusal}
-use Rattle.rules.proofs.Store.{and-false}
 use Rattle.rules.proofs.Known.{known-number, unknown-number}
 use Rattle.settings.specs.View.{settingsOf, Checked}
 use Rattle.settings.specs.declared.Settings.{Settings}
@@ -89,6 +88,10 @@ module _ (procs k : ℕ) (t : List ℕ) (g : Bool) (e : g ≡ allBelow procs (dr
 pub ruleset turns = (turns-over, turn-stray, turn-below, needs)
 
 -- ---- the settings: one test that fails is enough
+
+and-false : (a : Bool) → (a && false) ≡ false
+and-false true = refl
+and-false false = refl
 
 and-true : (a : Bool) → (a && true) ≡ a
 and-true true = refl
