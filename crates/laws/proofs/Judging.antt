@@ -5,26 +5,25 @@ use mathlib.Core.Path.{_≡_, refl, ap, sym, _∙_, subst}
 use mathlib.Core.List.{List, [], _∷_, _++_, append-assoc, append-nil}
 use mathlib.Core.Bool.{Bool, false, _&&_, and-false}
 use mathlib.Core.Logic.{inl, inr}
-use lib.ListN.{length, length-append, set}
+use lib.ListN.{length, length-append}
 use lib.Dec.{ltb, leb, eqb}
 use borrow.Author.Tests.{ne-eqb, lt-leb, le-ltb}
 use native.Mathlib.Omega.{arith}
-use Rattle.rules.specs.Bounds.{mostProcs, mostTicket, mostBudget, mostRounds, mostHold, mostTurns}
+use Rattle.rules.specs.Bounds.{mostTurns}
 use Rattle.rules.specs.Settings.{Settings}
 use Rattle.rules.specs.Machines.{bytes, named, known}
-use Rattle.rules.specs.Rule.{Got, ok, fault, Rule, _>>=_, _>>_, give, checked, feed, comma, isDigit, lit, word, digits, number}
-use Rattle.rules.specs.File.{decimalIn, decimal, label, name, ranged, field, entries, rows, items, turns, Front, front, settings, rest, whole, file}
+use Rattle.rules.specs.Rule.{Got, ok, fault, Rule, _>>=_, _>>_, give, checked, feed, comma, isDigit, word, digits, number}
+use Rattle.rules.specs.File.{decimalIn, decimal, name, ranged, items, turns, whole, file}
 use Rattle.rules.specs.Calls.{Reading, refusedRead, readingOf, reading}
 use Rattle.rules.proofs.Store.{either, by-test}
 use Rattle.laws.specs.Laws.{Separator, Judged}
-use Rattle.laws.proofs.Exact.{not-ok, after-refuses, checked-refuses, same-number, Exact, exact-check, exact-lit, lit-refuses}
+use Rattle.laws.proofs.Exact.{not-ok, after-refuses, checked-refuses, same-number, Exact, exact-check, lit-refuses}
 use Rattle.laws.proofs.Decimal.{first-digit, decimal-one, decimal-length, decimal-wider}
 use Rattle.laws.proofs.Numbers.{IsSep, Number, numberText, exact-number, number-refuses, not-sep, number-fails, number-stops, roomBehind, digits-none, digits-wrong}
-use Rattle.laws.proofs.Names.{exact-name, word-refuses}
-use Rattle.laws.proofs.Whole.{Between, exact-ranged, exact-field, exact-entries, exact-rows}
-use Rattle.laws.proofs.Turns.{bare, turns-items, exact-turns}
-use Rattle.laws.proofs.Near.{width, width-is}
-use Rattle.laws.proofs.RoundTrip.{exact-front, exact-body, end-refuses}
+use Rattle.laws.proofs.Names.{word-refuses}
+use Rattle.laws.proofs.Turns.{bare, turns-items}
+use Rattle.laws.proofs.Parts.{width, width-is, plain, Kept, of-body}
+use Rattle.laws.proofs.RoundTrip.{exact-body, end-refuses}
 
 -- ---- a test that a number has to pass
 
@@ -93,10 +92,6 @@ module _ {A B : Type 0} {r : Rule A} {w : A → List ℕ} {P : A → Type 0} {f 
 
 -- ---- the rules of a file
 
-plain : (x : ℕ) → Separator x → isDigit x ≡ false
-plain x (inl e) = rw e
-plain x (inr e) = rw e
-
 module _ (t : Test) where
   na : isDigit (t .a) ≡ false
   na = plain _ (t .first)
@@ -131,10 +126,6 @@ blame-give v = blame-none (λ s at n p e. absurd (not-ok v s at n p e))
 judge-then : {B : Type 0} {f : ℕ × ℕ → Rule B} (n : ℕ) (t : Test) → 0 < n → ((v : ℕ × ℕ) → Blames (f v)) → Blames (_>>=_ (judge n t) f)
 judge-then n t z bf = blame-then (exact-check n (t .test) z (exact t)) (blame-judge n t) (λ v p. bf v)
 
--- these bytes, and then another rule
-lit-then : {B : Type 0} {f : Rule B} (bs : List ℕ) → Blames f → Blames (_>>_ (lit bs) f)
-lit-then bs bf = blame-then (exact-lit bs) (blame-none (λ s at n p e. omega (arith, lit-refuses bs s at n p e))) (λ u q. bf)
-
 blame-name : Blames name
 blame-name = blame-none (λ s at n p e.
     after-refuses (checked 2 (λ w. known (named w)) word s at) _ n p e
@@ -154,18 +145,6 @@ ranges x lo hi sx h = record {
 
 blame-ranged : (x lo hi : ℕ) → Separator x → hi < 10 ^ 5 → Blames (ranged x lo hi)
 blame-ranged x lo hi sx h = judge-then 3 (ranges x lo hi sx h) (omega arith) (λ v. blame-give (v .0))
-
-blame-entries : (i : ℕ) → Blames (entries i)
-blame-entries i =
-    lit-then (label i)
-    (blame-then (exact-ranged comma 0 mostRounds refl (omega arith)) (blame-ranged comma 0 mostRounds (inl refl) (omega arith)) (λ rounds p.
-    blame-then (exact-ranged feed 0 mostHold refl (omega arith)) (blame-ranged feed 0 mostHold (inr refl) (omega arith)) (λ hold p.
-    blame-give (rounds, hold))))
-
-blame-rows : (k i : ℕ) (rounds hold : List ℕ) → Blames (rows k i rounds hold)
-unfolding rows
-blame-rows zero i rounds hold = blame-give (rounds, hold)
-blame-rows (suc k) i rounds hold = blame-then (exact-entries i) (blame-entries i) (λ v p. blame-rows k (i + 1) (set rounds i (v .0)) (set hold i (v .1)))
 
 -- a turn that has to pass a test
 abbrev turn : (test : ℕ × ℕ → Bool) → ((v : ℕ × ℕ) → 10 ^ 5 ≤ v .0 → test v ≡ false) → Test
@@ -195,31 +174,22 @@ blame-turns procs h (x ∷ s) at k p l e =
     moved [] refl (omega arith) b (λ d u j o m c. turns-items procs _ at (still-turn (b .before) _ u d m there) ∙ c))
     e
 
-field-then : {B : Type 0} {f : ℕ → Rule B} (l : List ℕ) (lo hi : ℕ) → hi < 10 ^ 5 → ((n : ℕ) → Between lo hi n → Blames (f n)) → Blames (_>>=_ (field l lo hi) f)
-field-then l lo hi h bf = blame-then (exact-field l lo hi (omega arith)) (lit-then l (blame-ranged feed lo hi (inr refl) h)) bf
-
-blame-front : Blames front
-unfolding front
-blame-front =
-    lit-then (bytes "algo=") (blame-then exact-name blame-name (λ algo p.
-    field-then (bytes "procs=") 1 mostProcs (omega arith) (λ procs p.
-    field-then (bytes "home=") 0 (procs - 1) (omega (arith, p .1)) (λ home p.
-    field-then (bytes "ticket=") 0 mostTicket (omega arith) (λ ticket p.
-    field-then (bytes "budget=") 0 mostBudget (omega arith) (λ budget p.
-    blame-give (record { algo = algo; procs = procs; home = home; ticket = ticket; budget = budget })))))))
-
-blame-rest : (f : Front) → f .procs ≤ mostProcs → Blames (rest f)
-unfolding rest
-blame-rest f h =
-    blame-then (exact-rows (f .procs) 0 _ _ (omega arith) (omega arith)) (blame-rows (f .procs) 0 _ _) (λ r p.
-    lit-then (bytes "turns=")
-    (blame-then (exact-turns (f .procs) (omega arith)) (blame-turns (f .procs) (omega arith)) (λ ts p.
-    blame-give (settings f (r .0) (r .1), ts))))
+-- every part of a file
+blaming : Kept (λ A c r. Blames r)
+blaming = record {
+  one-then = blame-then;
+  of-give = blame-give;
+  wider = λ h b. b;
+  of-lit = λ bs. blame-none (λ s at n p e. omega (arith, lit-refuses bs s at n p e));
+  of-name = blame-name;
+  of-ranged = λ x lo hi most sx h m. blame-ranged x lo hi sx (omega arith);
+  of-turns = λ procs h. blame-turns procs (omega arith);
+}
 
 blame-file : Blames file
 unfolding file whole
 blame-file =
-    blame-then exact-body (blame-then exact-front blame-front (λ f o. blame-rest f (o .procs-high)))
+    blame-then exact-body (of-body blaming)
     (λ v p. blame-none (λ s at n p e. omega (arith, end-refuses v s at n p e)))
 
 -- ---- what is refused in a number's place

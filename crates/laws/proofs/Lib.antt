@@ -22,6 +22,7 @@ pub mod Names
 pub mod Whole
 pub mod Turns
 pub mod RoundTrip
+pub mod Parts
 pub mod Near
 pub mod Longest
 pub mod Judging

@@ -1,5 +1,5 @@
 -- The longest file: none is longer, and there is one. Its bytes are counted from the bounds and the table.
-use Prim.Native.Nat.{ℕ, zero, suc, _+_, _-_, _*_, _≤_, _<_}
+use Prim.Native.Nat.{ℕ, zero, suc, _+_, _-_, _*_, _<_}
 use mathlib.Core.Path.{_≡_, refl, ap₂, _∙_}
 use mathlib.Core.List.{List, [], _∷_, _++_}
 use lib.ListN.{length, length-append, replicate, length-replicate, getD-replicate, List·getD-eq-default}
@@ -8,59 +8,24 @@ use native.Mathlib.Nat.{suc-mul}
 use native.Mathlib.Omega.{arith}
 use Rattle.rules.specs.Bounds.{mostProcs, mostTicket, mostBudget, mostRounds, mostHold, mostTurns, longestFile}
 use Rattle.rules.specs.Settings.{Settings, entry}
-use Rattle.rules.specs.Machines.{bytes, table, find}
+use Rattle.rules.specs.Machines.{table, find}
 use Rattle.rules.specs.Rule.{feed, comma}
-use Rattle.rules.specs.File.{decimalIn, decimal, label, Front, front, settings, rest, entriesText, rowsText, turnsText, text}
+use Rattle.rules.specs.File.{decimalIn, decimal, label, entriesText, rowsText, turnsText, text}
 use Rattle.rules.proofs.Accepted.{Row, Below}
-use Rattle.laws.proofs.Names.{longestName, exact-name}
-use Rattle.laws.proofs.Whole.{exact-rows}
-use Rattle.laws.proofs.Turns.{exact-turns}
-use Rattle.laws.proofs.RoundTrip.{body, written, Full, exact-front}
-use Rattle.laws.proofs.Near.{Near, near-then, near-give, near-as, near-name, lit-then, field-then, near-rows, near-turns}
-use Rattle.laws.proofs.Near.{width, width-is, entriesMost, rowsMost, rows-wider, turnMost}
+use Rattle.laws.proofs.Names.{longestName}
+use Rattle.laws.proofs.RoundTrip.{body, written, Full}
+use Rattle.laws.proofs.Parts.{width, width-is, frontMost, entriesMost, rowsMost, restMost, of-body}
+use Rattle.laws.proofs.Near.{Near, near}
 
 -- ---- no file is longer
-
-abbrev fieldMost : List ℕ → ℕ → ℕ
-fieldMost l hi = length l + (width hi + 1)
-
-abbrev frontMost : ℕ
-frontMost =
-    length (bytes "algo=") + (longestName + 1
-    + (fieldMost (bytes "procs=") mostProcs
-    + (fieldMost (bytes "home=") (mostProcs - 1)
-    + (fieldMost (bytes "ticket=") mostTicket
-    + fieldMost (bytes "budget=") mostBudget))))
-
-abbrev restMost : ℕ
-restMost = rowsMost entriesMost mostProcs 0 + (length (bytes "turns=") + mostTurns * turnMost)
 
 -- the count of document 01
 most-is : frontMost + restMost ≡ longestFile
 unfolding width rowsMost decimal decimalIn
 most-is = refl
 
-near-front : Near frontMost front
-unfolding front
-near-front =
-    near-as (omega arith) (lit-then (bytes "algo=") (near-then exact-name near-name (λ algo p.
-    field-then (bytes "procs=") 1 mostProcs mostProcs (omega arith) (omega arith) (λ procs p.
-    field-then (bytes "home=") 0 (procs - 1) (mostProcs - 1) (omega (arith, p .1)) (omega arith) (λ home p.
-    field-then (bytes "ticket=") 0 mostTicket mostTicket (omega arith) (omega arith) (λ ticket p.
-    field-then (bytes "budget=") 0 mostBudget mostBudget (omega arith) (omega arith) (λ budget p.
-    near-give (record { algo = algo; procs = procs; home = home; ticket = ticket; budget = budget }))))))))
-
-near-rest : (f : Front) → f .procs ≤ mostProcs → Near restMost (rest f)
-unfolding rest
-near-rest f h =
-    near-as (omega (arith, rows-wider entriesMost (f .procs) mostProcs 0 h))
-    (near-then (exact-rows (f .procs) 0 _ _ (omega arith) (omega arith)) (near-rows (f .procs) 0 _ _) (λ r p.
-    lit-then (bytes "turns=")
-    (near-then (exact-turns (f .procs) (omega arith)) (near-turns (f .procs) h) (λ ts p.
-    near-give (settings f (r .0) (r .1), ts)))))
-
 pub near-body : Near longestFile body
-near-body = near-as (omega (arith, most-is)) (near-then exact-front near-front (λ f o. near-rest f (o .procs-high)))
+near-body = near .wider (omega (arith, most-is)) (of-body near)
 
 -- ---- there is one so long
 

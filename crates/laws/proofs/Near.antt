@@ -3,23 +3,24 @@ use Prim.Native.Nat.{ℕ, zero, suc, _+_, _-_, _*_, _^_, _≤_, _<_}
 use mathlib.Core.Path.{_≡_, refl, ap}
 use mathlib.Core.List.{List, [], _∷_, _++_}
 use mathlib.Core.Bool.{Bool, true, false, _&&_, _||_}
-use lib.ListN.{length, length-append, set}
+use lib.ListN.{length, length-append}
 use lib.Dec.{ltb, leb, eqb}
 use borrow.Author.Tests.{ltb-true}
 use native.Mathlib.Nat.{suc-mul}
 use native.Mathlib.Omega.{arith}
 use Rattle.rules.specs.Memory.{pick}
-use Rattle.rules.specs.Bounds.{mostProcs, mostRounds, mostHold, mostTurns, mostLetters, mostDigits}
+use Rattle.rules.specs.Bounds.{mostProcs, mostTurns, mostLetters, mostDigits}
 use Rattle.rules.specs.Machines.{named, known}
 use Rattle.rules.specs.Rule.{Got, ok, fault, Rule, after, _>>=_, _>>_, give, checked, feed, comma, isDigit, isLower, lit, letters, word, digits, number}
-use Rattle.rules.specs.File.{decimalIn, decimal, label, name, ranged, field, entries, rows, items, turns}
+use Rattle.rules.specs.File.{name, ranged, items, turns}
 use Rattle.rules.proofs.Store.{by-test, either, left-of, false-true}
+use Rattle.laws.specs.Laws.{Separator}
 use Rattle.laws.proofs.Exact.{on-after, Exact, exact-lit}
-use Rattle.laws.proofs.Decimal.{decimal-in, decimal-wider}
 use Rattle.laws.proofs.Numbers.{roomAfter, room-fits}
 use Rattle.laws.proofs.Names.{longestName, name-length, exact-name}
-use Rattle.laws.proofs.Whole.{Between, exact-ranged, exact-field, exact-entries}
+use Rattle.laws.proofs.Whole.{exact-ranged}
 use Rattle.laws.proofs.Turns.{exact-item}
+use Rattle.laws.proofs.Parts.{width, width-most, turnMost, plain, Kept}
 
 -- a number and its separator
 abbrev pub slack : ℕ
@@ -50,7 +51,7 @@ module _ {A B : Type 0} {r : Rule A} {w : A → List ℕ} {P : A → Type 0} {f 
       go (ok a left′ at′) e = nf a (er .was left at a left′ at′ e .1) .cuts .same left′ more at′ (omega (arith, nr .spends left at a left′ at′ e))
       go (fault n p) e = refl
 
-  pub near-then : Near (c + d) (_>>=_ r f)
+  near-then : Near (c + d) (_>>=_ r f)
   near-then = record {
     spends = λ left at b left″ at″ e.
         on-after b left″ at″ (r left at) f e
@@ -58,7 +59,7 @@ module _ {A B : Type 0} {r : Rule A} {w : A → List ℕ} {P : A → Type 0} {f 
     cuts = record { same = then-cuts };
   }
 
-pub near-give : {A : Type 0} (v : A) → Near 0 (give v)
+near-give : {A : Type 0} (v : A) → Near 0 (give v)
 near-give v = record {
   spends = λ left at w left′ at′ e. let z : left ≡ left′ = cc in omega (arith, ap length z);
   cuts = record { same = λ left more at h. refl };
@@ -115,10 +116,6 @@ cuts-lit bs = record { same = lit-same bs }
 near-lit : (bs : List ℕ) → Near (length bs) (lit bs)
 near-lit bs = near-exact (exact-lit bs) (λ v p. omega arith) (cuts-as (omega arith) (cuts-lit bs))
 
--- these bytes, and then another rule
-pub lit-then : {B : Type 0} {f : Rule B} {d : ℕ} (bs : List ℕ) → Near d f → Near (length bs + d) (_>>_ (lit bs) f)
-lit-then bs n = near-then (exact-lit bs) (near-lit bs) (λ u p. n)
-
 letters-same : (k : ℕ) (w left more : List ℕ) (at : ℕ) → k + 1 ≤ length left → letters k w (left ++ more) at ≡ extend more (letters k w left at)
 unfolding letters
 letters-same k w [] more at h = absurd (omega arith)
@@ -152,71 +149,20 @@ number-same a b (x ∷ left) more at h =
 cuts-number : (a b : ℕ) → Cuts slack (number a b)
 cuts-number a b = record { same = number-same a b }
 
--- ---- lines
+-- ---- a name, a number in its range
 
-pub near-name : Near (longestName + 1) name
+near-name : Near (longestName + 1) name
 near-name =
     near-exact exact-name (λ m k. simp length-append (omega (arith, name-length m k)))
     (cuts-as (omega arith) (cuts-map (λ w. named w .number) (cuts-check 2 (λ w. known (named w)) cuts-word)))
 
--- how many digits the greatest number of a range has
-unfoldable pub width : ℕ → ℕ
-width n = length (decimalIn mostDigits n)
-
-pub width-is : (n : ℕ) → n < 10 ^ mostDigits → length (decimal n) ≡ width n
-unfolding width
-width-is n h = ap length (decimal-in mostDigits n (omega arith))
-
-width-most : (n most : ℕ) → n ≤ most → most < 10 ^ mostDigits → length (decimal n) ≤ width most
-width-most n most h l = omega (arith, decimal-wider n most h, width-is most l)
-
 -- a number from lo to hi, where hi is at most `most`
-near-ranged : (x lo hi most : ℕ) → isDigit x ≡ false → hi ≤ most → most < 10 ^ mostDigits → Near (width most + 1) (ranged x lo hi)
-near-ranged x lo hi most nx h m =
-    near-exact (exact-ranged x lo hi nx (omega arith)) (λ n p. simp length-append (omega (arith, width-most n most (omega (arith, p .1)) m)))
+near-ranged : (x lo hi most : ℕ) → Separator x → hi ≤ most → most < 10 ^ 5 → Near (width most + 1) (ranged x lo hi)
+near-ranged x lo hi most sx h m =
+    near-exact (exact-ranged x lo hi (plain x sx) (omega arith)) (λ n p. simp length-append (omega (arith, width-most n most (omega (arith, p .1)) (omega arith))))
     (cuts-as (omega arith) (cuts-map (λ v. v .0) (cuts-check 3 (λ v. leb lo (v .0) && leb (v .0) hi) (cuts-number x x))))
 
--- and then another rule
-module _ {B : Type 0} {f : ℕ → Rule B} {d : ℕ} where
-  ranged-then : (x lo hi most : ℕ) → isDigit x ≡ false → hi ≤ most → most < 10 ^ mostDigits → ((n : ℕ) → Between lo hi n → Near d (f n))
-      → Near (width most + 1 + d) (_>>=_ (ranged x lo hi) f)
-  ranged-then x lo hi most nx h m nf = near-then (exact-ranged x lo hi nx (omega arith)) (near-ranged x lo hi most nx h m) nf
-
-  pub field-then : (l : List ℕ) (lo hi most : ℕ) → hi ≤ most → most < 10 ^ mostDigits → ((n : ℕ) → Between lo hi n → Near d (f n))
-      → Near (length l + (width most + 1) + d) (_>>=_ (field l lo hi) f)
-  field-then l lo hi most h m nf = near-then (exact-field l lo hi (omega arith)) (lit-then l (near-ranged feed lo hi most refl h m)) nf
-
--- what a processor's line has after its label
-abbrev pub entriesMost : ℕ
-entriesMost = width mostRounds + 1 + (width mostHold + 1)
-
-near-entries : (i : ℕ) → Near (length (label i) + entriesMost) (entries i)
-near-entries i =
-    near-as (omega arith) (lit-then (label i)
-    (ranged-then comma 0 mostRounds mostRounds refl (omega arith) (omega arith) (λ r p.
-    ranged-then feed 0 mostHold mostHold refl (omega arith) (omega arith) (λ h p.
-    near-give (r, h)))))
-
--- the lines of k processors from i on, where each has n bytes after its label
-unfoldable pub rowsMost : ℕ → ℕ → ℕ → ℕ
-rowsMost n zero i = 0
-rowsMost n (suc k) i = length (label i) + n + rowsMost n k (i + 1)
-
-pub near-rows : (k i : ℕ) (rounds hold : List ℕ) → Near (rowsMost entriesMost k i) (rows k i rounds hold)
-unfolding rows rowsMost
-near-rows zero i rounds hold = near-give (rounds, hold)
-near-rows (suc k) i rounds hold = near-then (exact-entries i) (near-entries i) (λ v p. near-rows k (i + 1) (set rounds i (v .0)) (set hold i (v .1)))
-
-pub rows-wider : (n k m i : ℕ) → k ≤ m → rowsMost n k i ≤ rowsMost n m i
-unfolding rowsMost
-rows-wider n zero m i h = omega arith
-rows-wider n (suc k) zero i h = absurd (omega arith)
-rows-wider n (suc k) (suc m) i h = omega (arith, rows-wider n k m (i + 1) (omega arith))
-
 -- ---- turns
-
-abbrev pub turnMost : ℕ
-turnMost = width (mostProcs - 1) + 1
 
 near-turn : (procs : ℕ) → procs ≤ mostProcs → Near turnMost (checked 4 (λ v. ltb (v .0) procs) (number comma feed))
 near-turn procs h =
@@ -239,7 +185,7 @@ near-items (suc k) procs ts h =
     either (λ (r : Rule (List ℕ)). Near (k * turnMost) r) (eqb (v .1) feed) _ _ (near-as (omega arith) (near-give (ts ++ v .0 ∷ [])))
     (near-items k procs (ts ++ v .0 ∷ []) h)))
 
-pub near-turns : (procs : ℕ) → procs ≤ mostProcs → Near (mostTurns * turnMost) (turns procs)
+near-turns : (procs : ℕ) → procs ≤ mostProcs → Near (mostTurns * turnMost) (turns procs)
 unfolding turns
 near-turns procs h = record { spends = spends; cuts = record { same = cuts } }
   where
@@ -254,3 +200,16 @@ near-turns procs h = record { spends = spends; cuts = record { same = cuts } }
     cuts : (left more : List ℕ) (at : ℕ) → mostTurns * turnMost + slack ≤ length left → turns procs (left ++ more) at ≡ extend more (turns procs left at)
     cuts [] more at l = absurd (omega arith)
     cuts (x ∷ left) more at l = cuts-pick (eqb x feed) more _ _ _ _ (λ t. refl) (near-items mostTurns procs [] h .cuts .same (x ∷ left) more at l)
+
+-- ---- every part of a file
+
+pub near : Kept (λ A c r. Near c r)
+near = record {
+  one-then = near-then;
+  of-give = near-give;
+  wider = near-as;
+  of-lit = near-lit;
+  of-name = near-name;
+  of-ranged = near-ranged;
+  of-turns = near-turns;
+}
