@@ -49,17 +49,17 @@ decimal-more n d z h =
     decimal-long (n * 10 + d) (omega arith) ∙ rw (e, f)
 
 -- a number's first digit
-pub record First (n : ℕ) : Type 0 where
+pub record Starts (n : ℕ) : Type 0 where
   pub digit : ℕ
   pub small : digit < 10
   pub more : List ℕ
   pub spelled : decimal n ≡ (48 + digit) ∷ more
 
-first-in : (k n : ℕ) → n < 10 ^ suc k → First n
+first-in : (k n : ℕ) → n < 10 ^ suc k → Starts n
 first-in zero n h = record { digit = n; small = omega arith; more = []; spelled = decimal-one n (omega arith) }
 first-in (suc k) n h = by-cases (ltb n 10) refl (first-in k (n / 10) (omega arith))
   where
-    by-cases : (t : Bool) → ltb n 10 ≡ t → First (n / 10) → First n
+    by-cases : (t : Bool) → ltb n 10 ≡ t → Starts (n / 10) → Starts n
     by-cases true e f = record { digit = n; small = ltb-true n 10 e; more = []; spelled = decimal-one n (ltb-true n 10 e) }
     by-cases false e f = record {
       digit = f .digit;
@@ -68,7 +68,7 @@ first-in (suc k) n h = by-cases (ltb n 10) refl (first-in k (n / 10) (omega arit
       spelled = decimal-long n (ltb-false n 10 e) ∙ ap (λ (l : List ℕ). l ++ (48 + n % 10) ∷ []) (f .spelled);
     }
 
-pub first-digit : (n : ℕ) → First n
+pub first-digit : (n : ℕ) → Starts n
 first-digit n = first-in n n (below-power n)
 
 -- ---- how many digits

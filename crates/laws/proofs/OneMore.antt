@@ -18,7 +18,7 @@ use Rattle.laws.specs.Laws.{Separator, OneMore, settingsOf, farthest}
 use Rattle.laws.proofs.Exact.{exact-lit}
 use Rattle.laws.proofs.Numbers.{number-fails, number-stops, roomBehind, digits-none}
 use Rattle.laws.proofs.Whole.{exact-rows}
-use Rattle.laws.proofs.Turns.{endedBy, ended-by-feed, turns-go}
+use Rattle.laws.proofs.Turns.{listed, listed-feed, turns-go}
 use Rattle.laws.proofs.RoundTrip.{Opened, Full, frontText, opening, exact-front, full-opened, full-rows, full-turns}
 use Rattle.laws.proofs.Longest.{fullest, lastTurns, all-turns, fullest-full, fullest-length}
 use Rattle.laws.proofs.Judging.{nine}
@@ -72,23 +72,13 @@ unfolding items
 next-refused zero procs ts u at n p e = rw e
 next-refused (suc k) procs ts u at n p e = rw e
 
--- all but the end
-ended-last : (ts : List ℕ) → (m : List ℕ) × ((x : ℕ) → endedBy x ts ≡ m ++ x ∷ [])
-unfolding endedBy
-ended-last [] = ([], λ x. refl)
-ended-last (t ∷ []) = (decimal t, λ x. refl)
-ended-last (t ∷ u ∷ ts) =
-    let r = ended-last (u ∷ ts) in
-    ((decimal t ++ comma ∷ []) ++ r .0, λ x. rw (r .1 x) (sym (append-assoc (decimal t ++ comma ∷ []) (r .0) (x ∷ []))))
-
 -- all of a file but its last line feed
 upToEnd : Settings × List ℕ → List ℕ
-upToEnd v = upToTurns (v .0) ++ ended-last (v .1) .0
+upToEnd v = upToTurns (v .0) ++ listed (v .1)
 
 end-is : (v : Settings × List ℕ) → text (v .0) (v .1) ≡ upToEnd v ++ feed ∷ []
 unfolding upToEnd
-end-is v =
-    text-is (v .0) (v .1) ∙ rw (ended-by-feed (v .1), ended-last (v .1) .1 feed) (sym (append-assoc (upToTurns (v .0)) (ended-last (v .1) .0) (feed ∷ [])))
+end-is v = text-is (v .0) (v .1) ∙ rw (listed-feed (v .1)) (sym (append-assoc (upToTurns (v .0)) (listed (v .1)) (feed ∷ [])))
 
 -- with a comma in its place, what is refused as a further turn is
 more : (s : Settings) (t : List ℕ) → Full (s, t) → 0 < length t → (u : List ℕ) (n p : ℕ)
@@ -96,11 +86,9 @@ more : (s : Settings) (t : List ℕ) → Full (s, t) → 0 < length t → (u : L
 unfolding upToEnd
 more s [] h z u n p e = absurd (omega arith)
 more s (t ∷ us) h z u n p e =
-    let m = ended-last (t ∷ us) in
-    let place : length (upToTurns s ++ m .0) + 1 ≡ length (upToTurns s) + length (endedBy comma (t ∷ us)) = rw (m .1 comma) (simp length-append (omega arith)) in
+    let place : length (upToTurns s ++ listed (t ∷ us)) + 1 ≡ length (upToTurns s) + (length (listed (t ∷ us)) + 1) = simp length-append (omega arith) in
     let goes = turns-go (s .procs) (omega (arith, full-opened (s, t ∷ us) h .procs-high)) t us comma (full-turns (s, t ∷ us) h) (inl refl) u (length (upToTurns s)) in
-    let refused = turns-refused (s, t ∷ us) h (endedBy comma (t ∷ us) ++ u) n p (goes ∙ rw (← place) e) in
-    rw (append-assoc, ← append-assoc (m .0) (comma ∷ []) u, ← m .1 comma) refused
+    rw append-assoc (turns-refused (s, t ∷ us) h (listed (t ∷ us) ++ comma ∷ u) n p (goes ∙ rw (← place) e))
 
 module _ (s : Settings) (t : List ℕ) (h : Full (s, t)) (z : 0 < length t) (schedule : List ℕ) where
   abbrev l : List ℕ

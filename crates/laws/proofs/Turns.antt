@@ -32,38 +32,42 @@ exact-turn procs = exact-item 4 (turn procs) (omega arith)
 -- ---- what is read
 
 turn-reads : (procs t x : ℕ) (s : List ℕ) (at : ℕ) → procs ≤ 10 ^ mostDigits → t < procs → IsSep comma feed x
-    → checked 4 (turn procs) (number comma feed) ((decimal t ++ x ∷ []) ++ s) at ≡ ok (t, x) s (at + length (decimal t ++ x ∷ []))
-turn-reads procs t x s at hp h p = exact-turn procs .reads (t, x) ((omega arith, p), lt-ltb t procs h) s at
+    → checked 4 (turn procs) (number comma feed) (decimal t ++ x ∷ s) at ≡ ok (t, x) s (at + (length (decimal t) + 1))
+turn-reads procs t x s at hp h p =
+    rw (append-assoc (decimal t) (x ∷ []) s, length-append (decimal t) (x ∷ [])) at
+    (exact-turn procs .reads (t, x) ((omega arith, p), lt-ltb t procs h) s at)
 
--- the turns and x in place of the last line feed
-unfoldable pub endedBy : ℕ → List ℕ → List ℕ
-endedBy x [] = x ∷ []
-endedBy x (t ∷ []) = decimal t ++ x ∷ []
-endedBy x (t ∷ u ∷ ts) = (decimal t ++ comma ∷ []) ++ endedBy x (u ∷ ts)
+-- the turns' text without its line feed
+unfoldable pub listed : List ℕ → List ℕ
+listed [] = []
+listed (t ∷ []) = decimal t
+listed (t ∷ u ∷ ts) = decimal t ++ comma ∷ listed (u ∷ ts)
 
-pub ended-by-feed : (ts : List ℕ) → turnsText ts ≡ endedBy feed ts
-unfolding turnsText endedBy
-ended-by-feed [] = refl
-ended-by-feed (t ∷ []) = refl
-ended-by-feed (t ∷ u ∷ ts) = rw (ended-by-feed (u ∷ ts))
+pub listed-feed : (ts : List ℕ) → turnsText ts ≡ listed ts ++ feed ∷ []
+unfolding turnsText listed
+listed-feed [] = refl
+listed-feed (t ∷ []) = refl
+listed-feed (t ∷ u ∷ ts) = rw (listed-feed (u ∷ ts)) (simp append-assoc)
 
--- after these turns: with a line feed they were all, with a comma there are more
+-- after these turns and x: with a line feed they were all, with a comma there are more
 items-go : (k procs : ℕ) (ts : List ℕ) (t : ℕ) (us : List ℕ) (x : ℕ) → procs ≤ 10 ^ mostDigits → Below procs (t ∷ us) → length (t ∷ us) ≤ k → IsSep comma feed x
-    → (s : List ℕ) (at : ℕ) → items k procs ts (endedBy x (t ∷ us) ++ s) at
-    ≡ pick (eqb x feed) (give (ts ++ t ∷ us)) (items (k - length (t ∷ us)) procs (ts ++ t ∷ us)) s (at + length (endedBy x (t ∷ us)))
-unfolding items endedBy
+    → (s : List ℕ) (at : ℕ) → items k procs ts (listed (t ∷ us) ++ x ∷ s) at
+    ≡ pick (eqb x feed) (give (ts ++ t ∷ us)) (items (k - length (t ∷ us)) procs (ts ++ t ∷ us)) s (at + (length (listed (t ∷ us)) + 1))
+unfolding items listed
 items-go zero procs ts t us x hp b c e s at = absurd (omega arith)
 items-go (suc k) procs ts t [] x hp b c e s at = let z : suc k - 1 ≡ k = omega arith in rw (turn-reads procs t x s at hp (b .0) e, z)
 items-go (suc k) procs ts t (u ∷ us) x hp b c e s at =
     let z : suc k - length (t ∷ u ∷ us) ≡ k - length (u ∷ us) = omega arith in
+    let place : at + (length (decimal t ++ comma ∷ listed (u ∷ us)) + 1) ≡ at + (length (decimal t) + 1) + (length (listed (u ∷ us)) + 1) =
+    simp length-append (omega arith)
+    in
     rw (
       z,
-      append-assoc (decimal t ++ comma ∷ []) (endedBy x (u ∷ us)) s,
-      turn-reads procs t comma (endedBy x (u ∷ us) ++ s) at hp (b .0) (inl refl),
-      items-go k procs (ts ++ t ∷ []) u us x hp (b .1) (omega arith) e s (at + length (decimal t ++ comma ∷ [])),
+      place,
+      append-assoc (decimal t) (comma ∷ listed (u ∷ us)) (x ∷ s),
+      turn-reads procs t comma (listed (u ∷ us) ++ x ∷ s) at hp (b .0) (inl refl),
+      items-go k procs (ts ++ t ∷ []) u us x hp (b .1) (omega arith) e s (at + (length (decimal t) + 1)),
       append-assoc ts (t ∷ []) (u ∷ us),
-      length-append (decimal t ++ comma ∷ []) (endedBy x (u ∷ us)),
-      add-assoc,
     )
 
 -- ---- what was read
@@ -150,20 +154,21 @@ turns-items procs (x ∷ s) at e = rw e
 digit-not-bare : (t : ℕ) (s : List ℕ) → bare (decimal t ++ s) ≡ false
 digit-not-bare t s = let f = first-digit t in rw (f .spelled) (ne-eqb (48 + f .digit) feed (λ e. omega arith))
 
-ended-not-bare : (x t : ℕ) (us s : List ℕ) → bare (endedBy x (t ∷ us) ++ s) ≡ false
-unfolding endedBy
-ended-not-bare x t [] s = rw (append-assoc (decimal t) (x ∷ []) s) (digit-not-bare t (x ∷ s))
-ended-not-bare x t (u ∷ us) s = simp append-assoc (digit-not-bare t (comma ∷ (endedBy x (u ∷ us) ++ s)))
+listed-not-bare : (t : ℕ) (us s : List ℕ) → bare (listed (t ∷ us) ++ s) ≡ false
+unfolding listed
+listed-not-bare t [] s = digit-not-bare t s
+listed-not-bare t (u ∷ us) s = rw (append-assoc (decimal t) (comma ∷ listed (u ∷ us)) s) (digit-not-bare t _)
 
 module _ (procs : ℕ) (hp : procs ≤ 10 ^ mostDigits) where
-  pub turns-go : (t : ℕ) (us : List ℕ) (x : ℕ) → Turns procs (t ∷ us) → IsSep comma feed x → (s : List ℕ) (at : ℕ) → turns procs (endedBy x (t ∷ us) ++ s) at
-      ≡ pick (eqb x feed) (give (t ∷ us)) (items (mostTurns - length (t ∷ us)) procs (t ∷ us)) s (at + length (endedBy x (t ∷ us)))
-  turns-go t us x h e s at = turns-items procs _ at (ended-not-bare x t us s) ∙ items-go mostTurns procs [] t us x hp (h .0) (h .1) e s at
+  pub turns-go : (t : ℕ) (us : List ℕ) (x : ℕ) → Turns procs (t ∷ us) → IsSep comma feed x → (s : List ℕ) (at : ℕ) → turns procs (listed (t ∷ us) ++ x ∷ s) at
+      ≡ pick (eqb x feed) (give (t ∷ us)) (items (mostTurns - length (t ∷ us)) procs (t ∷ us)) s (at + (length (listed (t ∷ us)) + 1))
+  turns-go t us x h e s at = turns-items procs _ at (listed-not-bare t us (x ∷ s)) ∙ items-go mostTurns procs [] t us x hp (h .0) (h .1) e s at
 
   turns-reads : (ts : List ℕ) → Turns procs ts → (s : List ℕ) (at : ℕ) → turns procs (turnsText ts ++ s) at ≡ ok ts s (at + length (turnsText ts))
   unfolding turns turnsText
   turns-reads [] h s at = refl
-  turns-reads (t ∷ ts) h s at = rw (ended-by-feed (t ∷ ts)) (turns-go t ts feed h (inr refl) s at)
+  turns-reads (t ∷ ts) h s at =
+      rw (listed-feed (t ∷ ts), append-assoc (listed (t ∷ ts)) (feed ∷ []) s, length-append (listed (t ∷ ts)) (feed ∷ [])) (turns-go t ts feed h (inr refl) s at)
 
   turns-was : (s : List ℕ) (at : ℕ) (ts s′ : List ℕ) (at′ : ℕ) → turns procs s at ≡ ok ts s′ at′ → (s ≡ turnsText ts ++ s′) × Turns procs ts
   unfolding turns turnsText
