@@ -14,7 +14,7 @@ use Rattle.laws.proofs.Refusals as refusals
 use Rattle.laws.proofs.Judging.{judged}
 use Rattle.laws.proofs.Runs.{runs}
 use Rattle.laws.proofs.Files as files
-use Rattle.laws.proofs.OneMore.{one-more, last-byte}
+use Rattle.laws.proofs.OneMore.{one-more, sides, last-byte}
 use Rattle.laws.proofs.Doubling.{doublings-hold}
 
 pub all-laws : Laws
@@ -48,6 +48,7 @@ all-laws = record {
   };
   judged = judged;
   one-more = one-more;
+  sides = sides;
   read-write = files.read-write;
   write-read = files.write-read;
   longest = files.longest;

@@ -83,7 +83,7 @@ read-write bytes schedule out h l =
     let room : length (text (settingsOf r) (turnsOf r)) ≤ length out = subst (λ (b : List ℕ). length b ≤ length out) (a .1) l in
     subst (λ (b : List ℕ). writing (settingsOf r) (turnsOf r) out ≡ writtenAs b out) (sym (a .1)) (writes (settingsOf r) (turnsOf r) out (a .0) room)
 
-read-text : (v : Settings × List ℕ) (schedule : List ℕ) → Full v → length (v .1) ≤ length schedule → reading (written v) schedule ≡ acceptedRead (v .0) (v .1) schedule
+pub read-text : (v : Settings × List ℕ) (schedule : List ℕ) → Full v → length (v .1) ≤ length schedule → reading (written v) schedule ≡ acceptedRead (v .0) (v .1) schedule
 unfolding readingOf
 read-text v schedule f h = rw (file-reads v f, le-leb (length (v .1)) (length schedule) h)
 

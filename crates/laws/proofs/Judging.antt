@@ -1,7 +1,7 @@
 -- Where a refusal with 3, 4 or 5 comes from: a number that was read to its separator and failed its test. Whatever that test refuses in the number's
 -- place, the file is refused for.
 use Prim.Native.Nat.{ℕ, zero, suc, _+_, _-_, _^_, _≤_, _<_}
-use mathlib.Core.Path.{_≡_, refl, ap, sym, _∙_, subst}
+use mathlib.Core.Path.{_≡_, refl, ap, ap₂, sym, _∙_, subst}
 use mathlib.Core.List.{List, [], _∷_, _++_, append-assoc, append-nil}
 use mathlib.Core.Bool.{Bool, false, _&&_, and-false}
 use mathlib.Core.Logic.{inl, inr}
@@ -11,16 +11,16 @@ use borrow.Author.Tests.{ne-eqb, lt-leb, le-ltb}
 use native.Mathlib.Omega.{arith}
 use Rattle.rules.specs.Bounds.{mostTurns}
 use Rattle.rules.specs.Settings.{Settings}
-use Rattle.rules.specs.Machines.{bytes, named, known}
-use Rattle.rules.specs.Rule.{Got, ok, fault, Rule, _>>=_, _>>_, give, checked, feed, comma, isDigit, word, digits, number}
-use Rattle.rules.specs.File.{decimalIn, decimal, name, ranged, items, turns, whole, file}
+use Rattle.rules.specs.Machines.{bytes}
+use Rattle.rules.specs.Rule.{Got, ok, fault, Rule, _>>=_, _>>_, give, checked, feed, comma, isDigit, digits, number}
+use Rattle.rules.specs.File.{decimalIn, decimal, ranged, items, turns, whole, file}
 use Rattle.rules.specs.Calls.{Reading, refusedRead, readingOf, reading}
 use Rattle.rules.proofs.Store.{either, by-test}
 use Rattle.laws.specs.Laws.{Separator, Judged}
 use Rattle.laws.proofs.Exact.{not-ok, after-refuses, checked-refuses, same-number, Exact, exact-check, lit-refuses}
 use Rattle.laws.proofs.Decimal.{first-digit, decimal-one, decimal-length, decimal-wider}
 use Rattle.laws.proofs.Numbers.{IsSep, Number, numberText, exact-number, number-refuses, not-sep, number-fails, number-stops, roomBehind, digits-none, digits-wrong}
-use Rattle.laws.proofs.Names.{word-refuses}
+use Rattle.laws.proofs.Names.{name-refuses}
 use Rattle.laws.proofs.Turns.{bare, turns-items}
 use Rattle.laws.proofs.Parts.{width, width-is, plain, Kept, of-body}
 use Rattle.laws.proofs.RoundTrip.{exact-body, end-refuses}
@@ -126,12 +126,6 @@ blame-give v = blame-none (λ s at n p e. absurd (not-ok v s at n p e))
 judge-then : {B : Type 0} {f : ℕ × ℕ → Rule B} (n : ℕ) (t : Test) → 0 < n → ((v : ℕ × ℕ) → Blames (f v)) → Blames (_>>=_ (judge n t) f)
 judge-then n t z bf = blame-then (exact-check n (t .test) z (exact t)) (blame-judge n t) (λ v p. bf v)
 
-blame-name : Blames name
-blame-name = blame-none (λ s at n p e.
-    after-refuses (checked 2 (λ w. known (named w)) word s at) _ n p e
-    (λ g. checked-refuses 2 (λ w. known (named w)) word s at n p g (λ q. omega (arith, word-refuses s at n p q)) (λ v s′ at′ q nn pp. omega arith))
-    (λ v s′ at′ g q. absurd (not-ok _ s′ at′ n p q)))
-
 -- a number from lo to hi
 abbrev ranges : (x lo hi : ℕ) → Separator x → hi < 10 ^ 5 → Test
 ranges x lo hi sx h = record {
@@ -181,15 +175,14 @@ blaming = record {
   of-give = blame-give;
   wider = λ h b. b;
   of-lit = λ bs. blame-none (λ s at n p e. omega (arith, lit-refuses bs s at n p e));
-  of-name = blame-name;
+  of-name = blame-none name-refuses;
   of-ranged = λ x lo hi most sx h m. blame-ranged x lo hi sx (omega arith);
-  of-turns = λ procs h. blame-turns procs (omega arith);
 }
 
 blame-file : Blames file
 unfolding file whole
 blame-file =
-    blame-then exact-body (of-body blaming)
+    blame-then exact-body (of-body blaming (λ procs h. blame-turns procs (omega arith)))
     (λ v p. blame-none (λ s at n p e. omega (arith, end-refuses v s at n p e)))
 
 -- ---- what is refused in a number's place
@@ -264,18 +257,21 @@ module _ (bytes schedule : List ℕ) (k p : ℕ) (x : Blame file bytes 0 k p) wh
       among y (inl e) = subst Separator (sym e) (x .by .first)
       among y (inr e) = subst Separator (sym e) (x .by .second)
 
-pub judged : (bytes schedule : List ℕ) (number place : ℕ) → 3 ≤ number → number ≤ 5
-    → reading bytes schedule ≡ refusedRead number place schedule → Judged bytes schedule number place
+-- what a refusal of read with 3, 4 or 5 says of the file
+pub refused-file : (bytes schedule : List ℕ) (number place : ℕ) → 3 ≤ number → number ≤ 5
+    → reading bytes schedule ≡ refusedRead number place schedule → file bytes 0 ≡ fault number place
 unfolding readingOf
-judged bytes schedule number place lo hi = go (file bytes 0) refl
+refused-file bytes schedule number place lo hi = go (file bytes 0)
   where
-    go : (g : Got (Settings × List ℕ)) → file bytes 0 ≡ g → readingOf g schedule ≡ refusedRead number place schedule → Judged bytes schedule number place
-    go (ok v s at) e q =
+    go : (g : Got (Settings × List ℕ)) → readingOf g schedule ≡ refusedRead number place schedule → g ≡ fault number place
+    go (ok v s at) q =
         absurd (either (λ (r : Reading). r ≡ refusedRead number place schedule → ⊥) (leb (length (v .1)) (length schedule)) _ _
         (λ r. omega (arith, ap (λ (a : Reading). a .answer .number) r))
         (λ r. omega (arith, ap (λ (a : Reading). a .answer .number) r))
         q)
-    go (fault n p) e q =
-        let en : n ≡ number = ap (λ (a : Reading). a .answer .number) q in
-        let ep : p ≡ place = ap (λ (a : Reading). a .answer .place) q in
-        from-blame bytes schedule number place (blame-file bytes 0 number place lo (rw (en, ep) at e))
+    go (fault n p) q = ap₂ (λ (i j : ℕ). fault i j) (ap (λ (a : Reading). a .answer .number) q) (ap (λ (a : Reading). a .answer .place) q)
+
+pub judged : (bytes schedule : List ℕ) (number place : ℕ) → 3 ≤ number → number ≤ 5
+    → reading bytes schedule ≡ refusedRead number place schedule → Judged bytes schedule number place
+judged bytes schedule number place lo hi e =
+    from-blame bytes schedule number place (blame-file bytes 0 number place lo (refused-file bytes schedule number place lo hi e))

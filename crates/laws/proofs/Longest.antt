@@ -15,7 +15,7 @@ use Rattle.rules.proofs.Accepted.{Row, Below}
 use Rattle.laws.proofs.Names.{longestName}
 use Rattle.laws.proofs.RoundTrip.{body, written, Full}
 use Rattle.laws.proofs.Parts.{width, width-is, frontMost, entriesMost, rowsMost, restMost, of-body}
-use Rattle.laws.proofs.Near.{Near, near}
+use Rattle.laws.proofs.Near.{Near, near, near-turns}
 
 -- ---- no file is longer
 
@@ -25,7 +25,7 @@ unfolding width rowsMost decimal decimalIn
 most-is = refl
 
 pub near-body : Near longestFile body
-near-body = near .wider (omega (arith, most-is)) (of-body near)
+near-body = near .wider (omega (arith, most-is)) (of-body near near-turns)
 
 -- ---- there is one so long
 

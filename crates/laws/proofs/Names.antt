@@ -9,11 +9,11 @@ use borrow.Author.Tests.{ne-eqb, le-leb, lt-ltb, leb-true, eqb-true, ltb-true}
 use native.Mathlib.Omega.{arith}
 use Rattle.rules.specs.Bounds.{mostLetters}
 use Rattle.rules.specs.Machines.{same, Line, table, find, numbered, named, known}
-use Rattle.rules.specs.Rule.{Got, ok, fault, feed, isLower, letters, word}
+use Rattle.rules.specs.Rule.{Got, ok, fault, checked, feed, isLower, letters, word}
 use Rattle.rules.specs.File.{name}
 use Rattle.rules.specs.Calls.{all}
 use Rattle.rules.proofs.Store.{by-test, both, false-true, all-true}
-use Rattle.laws.proofs.Exact.{not-fault, not-ok, on-pick, pick-refuses, same-number, Exact, exact-then, exact-check, exact-give, exact-as}
+use Rattle.laws.proofs.Exact.{not-fault, not-ok, on-pick, pick-refuses, after-refuses, checked-refuses, same-number, Exact, exact-then, exact-check, exact-give, exact-as}
 
 -- ---- words
 
@@ -114,7 +114,7 @@ word-was (x ∷ s) at w s′ at′ e =
           rw (lt-ltb 0 (suc (length (r .more))) (omega arith), le-leb (suc (length (r .more))) mostLetters (omega arith), t, r .low),
         )
 
-pub word-refuses : (s : List ℕ) (at n p : ℕ) → word s at ≡ fault n p → n ≡ 1
+word-refuses : (s : List ℕ) (at n p : ℕ) → word s at ≡ fault n p → n ≡ 1
 unfolding word
 word-refuses [] at n p e = same-number 1 at n p e
 word-refuses (x ∷ s) at n p e =
@@ -202,3 +202,10 @@ exact-name =
   where
     positive : (m : ℕ) → known (numbered m) ≡ true → ltb 0 m ≡ true
     positive m k = rw (eqb-true m (numbered m .number) (found (λ l. eqb m (l .number)) (λ l. all (asked l)) table table-good k .1)) k
+
+-- a refusal of a name is 1 or 2
+pub name-refuses : (s : List ℕ) (at n p : ℕ) → name s at ≡ fault n p → n < 3
+name-refuses s at n p e =
+    after-refuses (checked 2 (λ w. known (named w)) word s at) _ n p e
+    (λ g. checked-refuses 2 (λ w. known (named w)) word s at n p g (λ q. omega (arith, word-refuses s at n p q)) (λ v s′ at′ q nn pp. omega arith))
+    (λ v s′ at′ g q. absurd (not-ok _ s′ at′ n p q))

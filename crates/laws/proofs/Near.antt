@@ -185,7 +185,7 @@ near-items (suc k) procs ts h =
     either (λ (r : Rule (List ℕ)). Near (k * turnMost) r) (eqb (v .1) feed) _ _ (near-as (omega arith) (near-give (ts ++ v .0 ∷ [])))
     (near-items k procs (ts ++ v .0 ∷ []) h)))
 
-near-turns : (procs : ℕ) → procs ≤ mostProcs → Near (mostTurns * turnMost) (turns procs)
+pub near-turns : (procs : ℕ) → procs ≤ mostProcs → Near (mostTurns * turnMost) (turns procs)
 unfolding turns
 near-turns procs h = record { spends = spends; cuts = record { same = cuts } }
   where
@@ -211,5 +211,4 @@ near = record {
   of-lit = near-lit;
   of-name = near-name;
   of-ranged = near-ranged;
-  of-turns = near-turns;
 }

@@ -3,26 +3,28 @@ use Prim.Native.Nat.{ℕ, zero, suc, _+_, _-_, _^_, _≤_, _<_}
 use mathlib.Core.Path.{_≡_, refl, ap, sym, _∙_, subst}
 use mathlib.Core.Logic.{_≢_, inl, inr}
 use mathlib.Core.List.{List, [], _∷_, _++_, append-assoc, append-nil, append-cancel-right}
-use mathlib.Core.Bool.{false}
+use mathlib.Core.Bool.{Bool, false, _&&_}
 use lib.ListN.{length, length-append, replicate}
-use lib.Dec.{ltb}
+use lib.Dec.{ltb, leb}
 use borrow.Author.Tests.{le-ltb}
 use native.Mathlib.Omega.{arith}
 use Rattle.rules.specs.Bounds.{mostTurns}
 use Rattle.rules.specs.Settings.{Settings, zeros}
 use Rattle.rules.specs.Machines.{bytes}
-use Rattle.rules.specs.Rule.{fault, Rule, _>>=_, feed, comma, checked, number}
-use Rattle.rules.specs.File.{decimal, rowsText, turnsText, items, turns, rest, whole, file, text}
-use Rattle.rules.specs.Calls.{Reading, refusedRead, readingOf, reading}
-use Rattle.laws.specs.Laws.{Separator, OneMore, settingsOf, farthest}
-use Rattle.laws.proofs.Exact.{exact-lit}
-use Rattle.laws.proofs.Numbers.{number-fails, number-stops, roomBehind, digits-none}
-use Rattle.laws.proofs.Whole.{exact-rows}
-use Rattle.laws.proofs.Turns.{listed, listed-feed, turns-go}
-use Rattle.laws.proofs.RoundTrip.{Opened, Full, frontText, opening, exact-front, full-opened, full-rows, full-turns}
+use Rattle.rules.specs.Rule.{fault, Rule, after, give, _>>=_, feed, comma, lit, checked, number}
+use Rattle.rules.specs.File.{decimal, rows, rowsText, turnsText, items, turns, Front, front, settings, rest, whole, file, text}
+use Rattle.rules.specs.Calls.{Reading, acceptedRead, refusedRead, readingOf, reading}
+use Rattle.laws.specs.Laws.{Prefix, Separator, OneMore, UpToTurns, Sides, settingsOf, farthest}
+use Rattle.laws.proofs.Exact.{not-ok, after-refuses, checked-refuses, exact-lit, lit-refuses}
+use Rattle.laws.proofs.Numbers.{number-refuses, number-fails, number-stops, roomBehind, digits-none}
+use Rattle.laws.proofs.Names.{name-refuses}
+use Rattle.laws.proofs.Whole.{Rows, exact-rows}
+use Rattle.laws.proofs.Turns.{listed, listed-feed, OfTurns, turns-items, digit-not-bare, turns-refuses, turns-go}
+use Rattle.laws.proofs.RoundTrip.{Opened, body, Full, frontText, opening, ending, exact-front, full-opened, full-rows, full-turns, to-full, end-refuses}
+use Rattle.laws.proofs.Parts.{Kept, of-front, of-rows}
 use Rattle.laws.proofs.Longest.{fullest, lastTurns, all-turns, fullest-full, fullest-length}
-use Rattle.laws.proofs.Judging.{nine}
-use Rattle.laws.proofs.Files.{was-read}
+use Rattle.laws.proofs.Judging.{nine, refused-file}
+use Rattle.laws.proofs.Files.{was-read, read-text}
 
 -- ---- the text before the turns
 
@@ -43,9 +45,10 @@ module _ (v : Settings × List ℕ) (h : Full v) where
   unfolding upToTurns
   place = simp length-append (omega arith)
 
-  turns-refused : (u : List ℕ) (n p : ℕ) → turns (s .procs) u (length (upToTurns s)) ≡ fault n p → file (upToTurns s ++ u) 0 ≡ fault n p
+  reached : (u : List ℕ) → file (upToTurns s ++ u) 0
+      ≡ after (after (turns (s .procs) u (length (upToTurns s))) (λ ts. give (s, ts))) ending
   unfolding file whole rest upToTurns
-  turns-refused u n p e =
+  reached u =
       rw (
         append-assoc,
         append-assoc,
@@ -54,11 +57,13 @@ module _ (v : Settings × List ℕ) (h : Full v) where
             .reads (s .rounds, s .hold) (full-rows v h) (bytes "turns=" ++ u) (0 + length (frontText (opening s))),
         exact-lit (bytes "turns=") .reads tt tt u (0 + length (frontText (opening s)) + length (rowsText (s .procs) 0 (s .rounds) (s .hold))),
         place,
-        e,
       )
     where
       o : Opened (opening s)
       o = full-opened v h
+
+  turns-refused : (u : List ℕ) (n p : ℕ) → turns (s .procs) u (length (upToTurns s)) ≡ fault n p → file (upToTurns s ++ u) 0 ≡ fault n p
+  turns-refused u n p e = reached u ∙ rw e
 
 -- ---- one turn more
 
@@ -79,6 +84,10 @@ upToEnd v = upToTurns (v .0) ++ listed (v .1)
 end-is : (v : Settings × List ℕ) → text (v .0) (v .1) ≡ upToEnd v ++ feed ∷ []
 unfolding upToEnd
 end-is v = text-is (v .0) (v .1) ∙ rw (listed-feed (v .1)) (sym (append-assoc (upToTurns (v .0)) (listed (v .1)) (feed ∷ [])))
+
+no-turns-end : (s : Settings) → upToEnd (s, []) ≡ upToTurns s
+unfolding upToEnd listed
+no-turns-end s = append-nil (upToTurns s)
 
 -- with a comma in its place, what is refused as a further turn is
 more : (s : Settings) (t : List ℕ) → Full (s, t) → 0 < length t → (u : List ℕ) (n p : ℕ)
@@ -116,6 +125,16 @@ module _ (s : Settings) (t : List ℕ) (h : Full (s, t)) (z : 0 < length t) (sch
       rw (append-nil (decimal n)) at
       (refused 0 (decimal n ++ []) 1 _ (omega arith) (number-stops comma feed refl refl 5 (λ v. false) n [] _ (omega arith) (digits-none comma feed (roomBehind n) n _)))
 
+-- a first turn
+first-turn : (s : Settings) → Full (s, []) → (schedule after : List ℕ) (n x : ℕ) → s .procs ≤ n → n < 10 ^ 9 → Separator x
+    → reading (upToEnd (s, []) ++ (decimal n ++ x ∷ after)) schedule ≡ refusedRead 4 (length (upToEnd (s, []))) schedule
+unfolding readingOf
+first-turn s h schedule after n x f b e =
+    let u : List ℕ = decimal n ++ x ∷ after in
+    let fails = number-fails comma feed refl refl 4 (λ v. ltb (v .0) (s .procs)) n x after (length (upToTurns s)) (omega arith) e (le-ltb n (s .procs) f) in
+    let item = turns-items (s .procs) u (length (upToTurns s)) (digit-not-bare n (x ∷ after)) ∙ next-refused mostTurns (s .procs) [] u _ 4 _ fails in
+    rw (no-turns-end s, turns-refused (s, []) h u 4 _ item)
+
 -- what is said of an accepted file, said of its text
 of-text : (l schedule : List ℕ) (X : List ℕ → Type 0) → reading (l ++ feed ∷ []) schedule .answer .number ≡ 0
     → ((s : Settings) (t : List ℕ) → Full (s, t) → settingsOf (reading (l ++ feed ∷ []) schedule) ≡ s → reading (l ++ feed ∷ []) schedule .answer .count ≡ length t
@@ -126,6 +145,11 @@ of-text l schedule X h k =
     let same : upToEnd v ≡ l = append-cancel-right (upToEnd v) l (feed ∷ []) (sym (end-is v) ∙ sym (r .as-text)) in
     subst X same (k (v .0) (v .1) (r .full) (ap settingsOf (r .is)) (ap (λ (a : Reading). a .answer .count) (r .is)))
 
+-- no turns
+without : (X : List ℕ → Type 0) (t : List ℕ) → length t ≡ 0 → X [] → X t
+without X [] e x = x
+without X (i ∷ t) e x = absurd (omega arith)
+
 pub one-more : OneMore
 one-more = record {
   too-many = λ l after schedule n x h c b e.
@@ -134,6 +158,89 @@ one-more = record {
   stray = λ l after schedule n x h z c p b e.
       of-text l schedule (λ (m : List ℕ). reading (m ++ comma ∷ (decimal n ++ x ∷ after)) schedule ≡ refusedRead 4 (length m + 1) schedule) h
       (λ s t f es ec. stray-turn s t f (omega arith) schedule after n x (omega arith) (omega (arith, ap (λ (w : Settings). w .procs) es)) b e);
+  stray-first = λ l after schedule n x h c p b e.
+      of-text l schedule (λ (m : List ℕ). reading (m ++ (decimal n ++ x ∷ after)) schedule ≡ refusedRead 4 (length m) schedule) h
+      (λ s t f es ec.
+      without (λ (ts : List ℕ). Full (s, ts) → reading (upToEnd (s, ts) ++ (decimal n ++ x ∷ after)) schedule ≡ refusedRead 4 (length (upToEnd (s, ts))) schedule)
+      t (omega arith) (λ g. first-turn s g schedule after n x (omega (arith, ap (λ (w : Settings). w .procs) es)) b e) f);
+}
+
+-- ---- 3 before the turns, 4 and 5 behind
+
+-- a rule that gives neither 4 nor 5
+low : Kept (λ A c r. (s : List ℕ) (at k p : ℕ) → r s at ≡ fault k p → k ≤ 3)
+low = record {
+  one-then = λ er lr lf s at k p e. after-refuses _ _ k p e (lr s at k p) (λ a s′ at′ g q. lf a (er .was s at a s′ at′ g .1) s′ at′ k p q);
+  of-give = λ v s at k p e. absurd (not-ok v s at k p e);
+  wider = λ h l. l;
+  of-lit = λ bs s at k p e. omega (arith, lit-refuses bs s at k p e);
+  of-name = λ s at k p e. omega (arith, name-refuses s at k p e);
+  of-ranged = λ x lo hi most sx h m s at k p e.
+      let test : ℕ × ℕ → Bool = λ v. leb lo (v .0) && leb (v .0) hi in
+      after-refuses (checked 3 test (number x x) s at) _ k p e
+      (λ g. checked-refuses 3 test (number x x) s at k p g (λ q. omega (arith, number-refuses x x s at k p q)) (λ v s′ at′ q kk pp. omega arith))
+      (λ v s′ at′ g q. absurd (not-ok _ s′ at′ k p q));
+}
+
+-- what comes after `turns=` is not refused with 3
+not-three : (s : Settings) → Full (s, []) → (u : List ℕ) (p : ℕ) → file (upToTurns s ++ u) 0 ≡ fault 3 p → ⊥
+not-three s h u p e =
+    after-refuses (after (turns (s .procs) u (length (upToTurns s))) (λ ts. give (s, ts))) ending 3 p (sym (reached (s, []) h u) ∙ e)
+    (λ g.
+    after-refuses (turns (s .procs) u (length (upToTurns s))) (λ ts. give (s, ts)) 3 p g (λ q. other (turns-refuses (s .procs) u _ 3 p q))
+    (λ ts s′ at q r. not-ok (s, ts) s′ at 3 p r))
+    (λ v s′ at g q. omega (arith, end-refuses v s′ at 3 p q))
+  where
+    other : OfTurns 3 → ⊥
+    other (inl e) = omega arith
+    other (inr h) = omega arith
+
+three : (bytes schedule : List ℕ) (place : ℕ) → reading bytes schedule ≡ refusedRead 3 place schedule → (l : List ℕ) → UpToTurns l → ¬ (Prefix l bytes)
+three bytes schedule place e l u =
+    of-text l [] (λ (m : List ℕ). ¬ (Prefix m bytes)) (u .0)
+    (λ s t f es ec.
+    without (λ (ts : List ℕ). Full (s, ts) → ¬ (Prefix (upToEnd (s, ts)) bytes)) t (omega (arith, u .1))
+    (λ g pre.
+    let at-l : upToTurns s ++ pre .rest ≡ bytes = rw (no-turns-end s) at (pre .adds) in
+    not-three s g (pre .rest) place (rw at-l (refused-file bytes schedule 3 place (omega arith) (omega arith) e)))
+    f)
+
+-- the text before the turns, of settings that are accepted
+up-to-turns : (s : Settings) → Full (s, []) → UpToTurns (upToTurns s)
+up-to-turns s h =
+    let e : reading (upToTurns s ++ feed ∷ []) [] ≡ acceptedRead s [] [] = rw (← no-turns-end s, ← end-is (s, [])) (read-text (s, []) [] h (omega arith)) in
+    (ap (λ (r : Reading). r .answer .number) e, ap (λ (r : Reading). r .answer .count) e)
+
+found : (b : List ℕ) (f : Front) (rounds hold left left′ left″ : List ℕ) → Opened f → Rows (f .procs) 0 zeros zeros (rounds, hold)
+    → b ≡ frontText f ++ left → left ≡ rowsText (f .procs) 0 rounds hold ++ left′ → left′ ≡ bytes "turns=" ++ left″
+    → (l : List ℕ) × UpToTurns l × Prefix l b
+unfolding upToTurns
+found b f rounds hold left left′ left″ o r x y z =
+    let s : Settings = settings f rounds hold in
+    (upToTurns s, up-to-turns s (to-full s [] o r (tt, omega arith)), record { rest = left″; adds = rw (x, y, z) (simp append-assoc) })
+
+-- what is refused with 4 or 5 was read up to there
+behind : (b : List ℕ) (k p : ℕ) → 4 ≤ k → file b 0 ≡ fault k p → (l : List ℕ) × UpToTurns l × Prefix l b
+unfolding file whole rest
+behind b k p h e =
+    after-refuses (body b 0) ending k p e
+    (λ g.
+    after-refuses (front b 0) rest k p g (λ q. absurd (omega (arith, of-front low b 0 k p q)))
+    (λ f left at q r.
+    after-refuses (rows (f .procs) 0 zeros zeros left at) _ k p r (λ q′. absurd (omega (arith, of-rows low (f .procs) 0 zeros zeros left at k p q′)))
+    (λ v left′ at′ q′ r′.
+    after-refuses (lit (bytes "turns=") left′ at′) _ k p r′ (λ q″. absurd (omega (arith, lit-refuses (bytes "turns=") left′ at′ k p q″)))
+    (λ u left″ at″ q″ r″.
+    let x = exact-front .was b 0 f left at q in
+    let y = exact-rows (f .procs) 0 zeros zeros (omega (arith, x .1 .procs-high)) (omega (arith, x .1 .procs-high)) .was left at v left′ at′ q′ in
+    let z = exact-lit (bytes "turns=") .was left′ at′ u left″ at″ q″ in
+    found b f (v .0) (v .1) left left′ left″ (x .1) (y .1) (x .0) (y .0) (z .0)))))
+    (λ v s at q r. absurd (omega (arith, end-refuses v s at k p r)))
+
+pub sides : Sides
+sides = record {
+  three = three;
+  four-five = λ bytes schedule number place lo hi e. behind bytes number place lo (refused-file bytes schedule number place (omega arith) hi e);
 }
 
 -- ---- how far read looks

@@ -82,7 +82,6 @@ pub record Kept (Q : (A : Type 0) → ℕ → Rule A → Type 0) : Type 1 where
   pub of-name : Q ℕ (longestName + 1) name
   -- hi is at most `most`
   pub of-ranged : (x lo hi most : ℕ) → Separator x → hi ≤ most → most < 10 ^ 5 → Q ℕ (width most + 1) (ranged x lo hi)
-  pub of-turns : (procs : ℕ) → procs ≤ mostProcs → Q (List ℕ) (mostTurns * turnMost) (turns procs)
 
 module _ {Q : (A : Type 0) → ℕ → Rule A → Type 0} (k : Kept Q) where
   -- these bytes, and then another rule
@@ -93,7 +92,7 @@ module _ {Q : (A : Type 0) → ℕ → Rule A → Type 0} (k : Kept Q) where
       → Q B (fieldMost l most + d) (_>>=_ (field l lo hi) f)
   field-then l lo hi most h m qf = k .one-then (exact-field l lo hi (omega arith)) (lit-then l (k .of-ranged feed lo hi most (inr refl) h m)) qf
 
-  of-front : Q Front frontMost front
+  pub of-front : Q Front frontMost front
   unfolding front
   of-front =
       k .wider (omega arith) (lit-then (bytes "algo=") (k .one-then exact-name (k .of-name) (λ algo p.
@@ -110,19 +109,21 @@ module _ {Q : (A : Type 0) → ℕ → Rule A → Type 0} (k : Kept Q) where
       k .one-then (exact-ranged feed 0 mostHold refl (omega arith)) (k .of-ranged feed 0 mostHold mostHold (inr refl) (omega arith) (omega arith)) (λ h p.
       k .of-give (r, h)))))
 
-  of-rows : (m i : ℕ) (rounds hold : List ℕ) → Q (List ℕ × List ℕ) (rowsMost entriesMost m i) (rows m i rounds hold)
+  pub of-rows : (m i : ℕ) (rounds hold : List ℕ) → Q (List ℕ × List ℕ) (rowsMost entriesMost m i) (rows m i rounds hold)
   unfolding rows rowsMost
   of-rows zero i rounds hold = k .of-give (rounds, hold)
   of-rows (suc m) i rounds hold = k .one-then (exact-entries i) (of-entries i) (λ v p. of-rows m (i + 1) (set rounds i (v .0)) (set hold i (v .1)))
 
-  of-rest : (f : Front) → f .procs ≤ mostProcs → Q (Settings × List ℕ) restMost (rest f)
-  unfolding rest
-  of-rest f h =
-      k .wider (omega (arith, rows-wider entriesMost (f .procs) mostProcs 0 h))
-      (k .one-then (exact-rows (f .procs) 0 _ _ (omega arith) (omega arith)) (of-rows (f .procs) 0 _ _) (λ r p.
-      lit-then (bytes "turns=")
-      (k .one-then (exact-turns (f .procs) (omega arith)) (k .of-turns (f .procs) h) (λ ts p.
-      k .of-give (settings f (r .0) (r .1), ts)))))
+  -- with the turns
+  module _ (of-turns : (procs : ℕ) → procs ≤ mostProcs → Q (List ℕ) (mostTurns * turnMost) (turns procs)) where
+    of-rest : (f : Front) → f .procs ≤ mostProcs → Q (Settings × List ℕ) restMost (rest f)
+    unfolding rest
+    of-rest f h =
+        k .wider (omega (arith, rows-wider entriesMost (f .procs) mostProcs 0 h))
+        (k .one-then (exact-rows (f .procs) 0 _ _ (omega arith) (omega arith)) (of-rows (f .procs) 0 _ _) (λ r p.
+        lit-then (bytes "turns=")
+        (k .one-then (exact-turns (f .procs) (omega arith)) (of-turns (f .procs) h) (λ ts p.
+        k .of-give (settings f (r .0) (r .1), ts)))))
 
-  pub of-body : Q (Settings × List ℕ) (frontMost + restMost) body
-  of-body = k .one-then exact-front of-front (λ f o. of-rest f (o .procs-high))
+    pub of-body : Q (Settings × List ℕ) (frontMost + restMost) body
+    of-body = k .one-then exact-front of-front (λ f o. of-rest f (o .procs-high))

@@ -118,6 +118,25 @@ module _ (v : Settings × List ℕ) (w : Full v) where
   pub full-turns : Turns (v .0 .procs) (v .1)
   full-turns = (a .turns-below, a .few)
 
+-- and back
+pub to-full : (s : Settings) (ts : List ℕ) → Opened (opening s) → Rows (s .procs) 0 zeros zeros (s .rounds, s .hold) → Turns (s .procs) ts → Full (s, ts)
+to-full s ts o r t = record {
+  accepted = record {
+    algo = o .algo;
+    procs-low = o .procs-low;
+    procs-high = o .procs-high;
+    home = o .home;
+    ticket = o .ticket;
+    budget = o .budget;
+    rounds = agree-row _ _ _ (r .of-rounds);
+    hold = agree-row _ _ _ (r .of-hold);
+    few = t .1;
+    turns-below = t .0;
+  };
+  rounds-long = r .of-rounds .long;
+  hold-long = r .of-hold .long;
+}
+
 pub exact-body : Exact body written Full
 unfolding rest text frontText
 exact-body =
@@ -131,25 +150,7 @@ exact-body =
     (λ v. tt) (λ a v p q. refl))
     (λ v. (v .0 .rounds, v .0 .hold)) (λ a v p q. ap (λ (w : Settings × List ℕ). (w .0 .rounds, w .0 .hold)) (q .1 .1)))
     (λ v. opening (v .0)) (λ a v p q. ap (λ (w : Settings × List ℕ). opening (w .0)) (q .1 .1 .1)))
-    (λ v p.
-    let o = p .0 in
-    let q = p .1 in
-    record {
-      accepted = record {
-        algo = o .algo;
-        procs-low = o .procs-low;
-        procs-high = o .procs-high;
-        home = o .home;
-        ticket = o .ticket;
-        budget = o .budget;
-        rounds = agree-row _ _ _ (q .0 .of-rounds);
-        hold = agree-row _ _ _ (q .0 .of-hold);
-        few = q .1 .1 .0 .1;
-        turns-below = q .1 .1 .0 .0;
-      };
-      rounds-long = q .0 .of-rounds .long;
-      hold-long = q .0 .of-hold .long;
-    })
+    (λ v p. to-full (v .0) (v .1) (p .0) (p .1 .0) (p .1 .1 .1 .0))
     (λ v w. (full-opened v w, (full-rows v w, (tt, (full-turns v w, refl)))))
     (λ v w. simp (append-assoc, append-nil))
 

@@ -3,11 +3,10 @@ use Prim.Native.Nat.{ℕ, zero, suc, _+_, _-_, _^_, _≤_, _<_}
 use mathlib.Core.Path.{_≡_, refl, sym, _∙_}
 use mathlib.Core.List.{List, [], _∷_, _++_, append-assoc}
 use mathlib.Core.Bool.{Bool, true, false}
-use mathlib.Core.Logic.{inl, inr}
+use mathlib.Core.Logic.{_⊎_, inl, inr}
 use lib.ListN.{length, length-append}
 use lib.Dec.{ltb, eqb}
 use borrow.Author.Tests.{ne-eqb, eqb-true, eqb-false, lt-ltb, ltb-true}
-use native.Mathlib.Nat.{add-assoc}
 use native.Mathlib.Omega.{arith}
 use Rattle.rules.specs.Memory.{pick}
 use Rattle.rules.specs.Bounds.{mostTurns, mostDigits}
@@ -15,9 +14,9 @@ use Rattle.rules.specs.Rule.{Got, ok, fault, Rule, give, feed, comma, checked, 
 use Rattle.rules.specs.File.{decimal, items, turns, turnsText}
 use Rattle.rules.proofs.Store.{by-test, false-true}
 use Rattle.rules.proofs.Accepted.{Below}
-use Rattle.laws.proofs.Exact.{not-fault, not-ok, on-after, pick-refuses, after-refuses, same-number, Exact, exact-check}
+use Rattle.laws.proofs.Exact.{not-fault, not-ok, on-after, pick-refuses, after-refuses, checked-refuses, same-number, Exact, exact-check}
 use Rattle.laws.proofs.Decimal.{first-digit}
-use Rattle.laws.proofs.Numbers.{IsSep, Number, numberText, exact-number}
+use Rattle.laws.proofs.Numbers.{IsSep, Number, numberText, number-refuses, exact-number}
 
 -- a number of the schedule, and its separator, where the number passes a test
 pub exact-item : (n : ℕ) (test : ℕ × ℕ → Bool) → 0 < n → Exact (checked n test (number comma feed)) numberText (λ v. Number comma feed v × (test v ≡ true))
@@ -117,15 +116,23 @@ items-was (suc k) procs ts s at us s′ at′ e =
     item-more k procs ts us s s″ s′ v (x .0) l (sep-comma (v .1) (x .1 .0 .1) (eqb-false _ _ t)) (items-was k procs (ts ++ v .0 ∷ []) s″ at″ us s′ at′ q))
     g)
 
-items-refuses : (k procs : ℕ) (ts s : List ℕ) (at n p : ℕ) → items k procs ts s at ≡ fault n p → 0 < n
+-- a refusal of a turn is 1, 4 or 5
+abbrev pub OfTurns : ℕ → Type 0
+OfTurns n = (n ≡ 1) ⊎ (4 ≤ n)
+
+item-refuses : (m : ℕ) (test : ℕ × ℕ → Bool) (s : List ℕ) (at n p : ℕ) → 4 ≤ m → checked m test (number comma feed) s at ≡ fault n p → OfTurns n
+item-refuses m test s at n p h e =
+    checked-refuses m test (number comma feed) s at n p e (λ g. inl (number-refuses comma feed s at n p g)) (λ v s′ at′ g q o. inr (omega arith))
+
+items-refuses : (k procs : ℕ) (ts s : List ℕ) (at n p : ℕ) → items k procs ts s at ≡ fault n p → OfTurns n
 unfolding items
 items-refuses zero procs ts s at n p e =
-    after-refuses (checked 5 (λ v. false) (number comma feed) s at) _ n p e (exact-item 5 (λ v. false) (omega arith) .refuses s at n p)
+    after-refuses (checked 5 (λ v. false) (number comma feed) s at) _ n p e (item-refuses 5 (λ v. false) s at n p (omega arith))
     (λ v s′ at′ h q. absurd (not-ok ts s′ at′ n p q))
 items-refuses (suc k) procs ts s at n p e =
-    after-refuses (checked 4 (turn procs) (number comma feed) s at) _ n p e (exact-turn procs .refuses s at n p)
+    after-refuses (checked 4 (turn procs) (number comma feed) s at) _ n p e (item-refuses 4 (turn procs) s at n p (omega arith))
     (λ v s′ at′ h q.
-    by-test (λ (r : Rule (List ℕ)). r s′ at′ ≡ fault n p → 0 < n) (eqb (v .1) feed) _ _ (λ t g. absurd (not-ok (ts ++ v .0 ∷ []) s′ at′ n p g))
+    by-test (λ (r : Rule (List ℕ)). r s′ at′ ≡ fault n p → OfTurns n) (eqb (v .1) feed) _ _ (λ t g. absurd (not-ok (ts ++ v .0 ∷ []) s′ at′ n p g))
     (λ t g. items-refuses k procs (ts ++ v .0 ∷ []) s′ at′ n p g)
     q)
 
@@ -151,13 +158,19 @@ unfolding turns
 turns-items procs [] at e = absurd (false-true (sym e))
 turns-items procs (x ∷ s) at e = rw e
 
-digit-not-bare : (t : ℕ) (s : List ℕ) → bare (decimal t ++ s) ≡ false
+pub digit-not-bare : (t : ℕ) (s : List ℕ) → bare (decimal t ++ s) ≡ false
 digit-not-bare t s = let f = first-digit t in rw (f .spelled) (ne-eqb (48 + f .digit) feed (λ e. omega arith))
 
 listed-not-bare : (t : ℕ) (us s : List ℕ) → bare (listed (t ∷ us) ++ s) ≡ false
 unfolding listed
 listed-not-bare t [] s = digit-not-bare t s
 listed-not-bare t (u ∷ us) s = rw (append-assoc (decimal t) (comma ∷ listed (u ∷ us)) s) (digit-not-bare t _)
+
+pub turns-refuses : (procs : ℕ) (s : List ℕ) (at n p : ℕ) → turns procs s at ≡ fault n p → OfTurns n
+unfolding turns
+turns-refuses procs [] at n p e = inl (same-number 1 at n p e)
+turns-refuses procs (x ∷ s) at n p e =
+    pick-refuses (eqb x feed) _ _ n p e (λ q. absurd (not-ok [] s (at + 1) n p q)) (λ q. items-refuses mostTurns procs [] (x ∷ s) at n p q)
 
 module _ (procs : ℕ) (hp : procs ≤ 10 ^ mostDigits) where
   pub turns-go : (t : ℕ) (us : List ℕ) (x : ℕ) → Turns procs (t ∷ us) → IsSep comma feed x → (s : List ℕ) (at : ℕ) → turns procs (listed (t ∷ us) ++ x ∷ s) at
@@ -179,11 +192,9 @@ module _ (procs : ℕ) (hp : procs ≤ 10 ^ mostDigits) where
       (λ t q. from-items procs ts (x ∷ s) s′ (items-was mostTurns procs [] (x ∷ s) at ts s′ at′ q))
       e
 
-  turns-refuses : (s : List ℕ) (at n p : ℕ) → turns procs s at ≡ fault n p → 0 < n
-  unfolding turns
-  turns-refuses [] at n p e = omega (arith, same-number 1 at n p e)
-  turns-refuses (x ∷ s) at n p e =
-      pick-refuses (eqb x feed) _ _ n p e (λ q. absurd (not-ok [] s (at + 1) n p q)) (λ q. items-refuses mostTurns procs [] (x ∷ s) at n p q)
-
   pub exact-turns : Exact (turns procs) turnsText (Turns procs)
-  exact-turns = record { reads = turns-reads; was = turns-was; refuses = turns-refuses }
+  exact-turns = record { reads = turns-reads; was = turns-was; refuses = λ s at n p e. positive n (turns-refuses procs s at n p e) }
+    where
+      positive : (n : ℕ) → OfTurns n → 0 < n
+      positive n (inl e) = omega arith
+      positive n (inr h) = omega arith

@@ -334,7 +334,7 @@ pub record Refusals : Type 0 where
       r .answer .number ≡ suc n
       → r ≡ record { answer = record { number = suc n; place = r .answer .place; settings = noSettings; count = 0 }; schedule = schedule })
 
--- one turn more at the end of an accepted file: a comma in place of the last line feed, a number of up to nine digits, its separator
+-- one turn more at the end of an accepted file: a comma in place of the last line feed, where there are turns, a number of up to nine digits, its separator
 pub record OneMore : Type 0 where
   -- where the count is passed it is 5, whatever the number
   pub too-many : (l after schedule : List ℕ) (n x : ℕ)
@@ -346,6 +346,21 @@ pub record OneMore : Type 0 where
       → (let r : Reading = reading (l ++ feed ∷ []) schedule in
       r .answer .number ≡ 0 → 0 < r .answer .count → r .answer .count < mostTurns → settingsOf r .procs ≤ n → n < 10 ^ 9 → Separator x
       → reading (l ++ comma ∷ (decimal n ++ x ∷ after)) schedule ≡ refusedRead 4 (length l + 1) schedule)
+  pub stray-first : (l after schedule : List ℕ) (n x : ℕ)
+      → (let r : Reading = reading (l ++ feed ∷ []) schedule in
+      r .answer .number ≡ 0 → r .answer .count ≡ 0 → settingsOf r .procs ≤ n → n < 10 ^ 9 → Separator x
+      → reading (l ++ (decimal n ++ x ∷ after)) schedule ≡ refusedRead 4 (length l) schedule)
+
+-- all but the last line feed of an accepted file without turns: it ends in `turns=`
+abbrev pub UpToTurns : List ℕ → Type 0
+UpToTurns l = (reading (l ++ feed ∷ []) [] .answer .number ≡ 0) × (reading (l ++ feed ∷ []) [] .answer .count ≡ 0)
+
+-- 4 and 5 are of the turns, and 3 is of what comes before
+pub record Sides : Type 0 where
+  pub three : (bytes schedule : List ℕ) (place : ℕ) → reading bytes schedule ≡ refusedRead 3 place schedule
+      → (l : List ℕ) → UpToTurns l → ¬ (Prefix l bytes)
+  pub four-five : (bytes schedule : List ℕ) (number place : ℕ) → 4 ≤ number → number ≤ 5 → reading bytes schedule ≡ refusedRead number place schedule
+      → (l : List ℕ) × UpToTurns l × Prefix l bytes
 
 pub record Longest : Type 0 where
   pub at-most : (bytes schedule : List ℕ) → reading bytes schedule .answer .number ≡ 0 → length bytes ≤ longestFile
@@ -417,6 +432,7 @@ pub record Laws : Type 1 where
       → reading bytes schedule ≡ refusedRead number place schedule → Judged bytes schedule number place
   -- read's 4 and 5, at the end of an accepted file
   pub one-more : OneMore
+  pub sides : Sides
   -- what read accepted, write gives back byte for byte where it has room
   pub read-write : (bytes schedule out : List ℕ)
       → (let r : Reading = reading bytes schedule in
