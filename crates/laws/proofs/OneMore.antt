@@ -1,4 +1,4 @@
--- One turn more at the end of an accepted file, and so how far read looks.
+-- One turn more at the end of an accepted file; which refusals are of the turns; and how far read looks.
 use Prim.Native.Nat.{ℕ, zero, suc, _+_, _-_, _^_, _≤_, _<_}
 use mathlib.Core.Path.{_≡_, refl, ap, sym, _∙_, subst}
 use mathlib.Core.Logic.{_≢_, inl, inr}
@@ -240,7 +240,7 @@ behind b k p h e =
 pub sides : Sides
 sides = record {
   three = three;
-  four-five = λ bytes schedule number place lo hi e. behind bytes number place lo (refused-file bytes schedule number place (omega arith) hi e);
+  four-five = λ bytes schedule number place lo hi e. behind bytes number place (omega arith) (refused-file bytes schedule number place (omega arith) hi e);
 }
 
 -- ---- how far read looks
