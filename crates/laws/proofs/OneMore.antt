@@ -36,7 +36,6 @@ text-is : (s : Settings) (t : List ℕ) → text s t ≡ upToTurns s ++ turnsTex
 unfolding text upToTurns frontText
 text-is s t = simp append-assoc
 
--- where the turns are refused, the file is
 module _ (v : Settings × List ℕ) (h : Full v) where
   abbrev s : Settings
   s = v .0
@@ -45,6 +44,7 @@ module _ (v : Settings × List ℕ) (h : Full v) where
   unfolding upToTurns
   place = simp length-append (omega arith)
 
+  -- behind `turns=` of settings that are accepted the turns are read
   reached : (u : List ℕ) → file (upToTurns s ++ u) 0
       ≡ after (after (turns (s .procs) u (length (upToTurns s))) (λ ts. give (s, ts))) ending
   unfolding file whole rest upToTurns
@@ -62,6 +62,7 @@ module _ (v : Settings × List ℕ) (h : Full v) where
       o : Opened (opening s)
       o = full-opened v h
 
+  -- and where they are refused, the file is
   turns-refused : (u : List ℕ) (n p : ℕ) → turns (s .procs) u (length (upToTurns s)) ≡ fault n p → file (upToTurns s ++ u) 0 ≡ fault n p
   turns-refused u n p e = reached u ∙ rw e
 
@@ -211,6 +212,7 @@ up-to-turns s h =
     let e : reading (upToTurns s ++ feed ∷ []) [] ≡ acceptedRead s [] [] = rw (← no-turns-end s, ← end-is (s, [])) (read-text (s, []) [] h (omega arith)) in
     (ap (λ (r : Reading). r .answer .number) e, ap (λ (r : Reading). r .answer .count) e)
 
+-- what was read up to `turns=`, put together
 found : (b : List ℕ) (f : Front) (rounds hold left left′ left″ : List ℕ) → Opened f → Rows (f .procs) 0 zeros zeros (rounds, hold)
     → b ≡ frontText f ++ left → left ≡ rowsText (f .procs) 0 rounds hold ++ left′ → left′ ≡ bytes "turns=" ++ left″
     → (l : List ℕ) × UpToTurns l × Prefix l b
