@@ -61,7 +61,7 @@ module _ (m : Machine) (s : Settings) where
   by-account P r i j a b o =
       by-after m s r i (Of P j) a a (λ l. by-turn m s (r .memory) (r .course) i
       (λ t. P (memory t (r .memory)) (account (course s i t (r .course)) (tally i (r .course .at i) t (r .tally)) j))
-      (λ p. a) (λ e. a) (λ z. go (ℕ-discrete j i)))
+      (λ p. a) (λ e d. a) (λ z. go (ℕ-discrete j i)))
     where
       w : Step (m .State)
       w = m .step s (r .memory) (r .course .at i) i

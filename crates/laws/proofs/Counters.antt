@@ -32,7 +32,7 @@ module _ (s : Settings) (small : s .procs ≤ mostTicket + 1) (first : s .ticket
   one-turn r i b w c =
       by-after machine s r i (λ r. Served (r .memory) (r .events)) c c
       (λ l. by-turn machine s (r .memory) (r .course) i (λ t. Served (memory t (r .memory)) (r .events ++ said i (says t)))
-      (λ p. rw (append-nil (r .events)) c) (λ e. rw (append-nil (r .events)) c) (λ z. stepped))
+      (λ p. rw (append-nil (r .events)) c) (λ e d. rw (append-nil (r .events)) c) (λ z. stepped))
     where
       t : Step State
       t = step s (r .memory) (r .course .at i) i

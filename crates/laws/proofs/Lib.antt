@@ -12,6 +12,9 @@ pub mod Costs
 pub mod McsCost
 pub mod Prices
 pub mod TreeCost
+pub mod Waiting
+pub mod Steadiness
+pub mod Slips
 pub mod Doubling
 pub mod Refusals
 pub mod Runs

@@ -12,9 +12,10 @@ use Rattle.rules.specs.Step.{join, grant, Event, Machine}
 use Rattle.rules.specs.Play.{whole}
 use Rattle.rules.specs.Ticket as ticket
 use Rattle.rules.specs.Mcs as mcs
-use Rattle.rules.specs.Machines.{Line, table, noLine, find, lock, barrier, known, numbered, machine}
+use Rattle.rules.specs.Machines.{table, lock, barrier, known, numbered, machine}
 use Rattle.rules.specs.Calls.{allBelow, refusal}
-use Rattle.rules.proofs.Store.{either, false-true}
+use Rattle.rules.proofs.Store.{false-true}
+use Rattle.rules.proofs.Known.{found}
 use Rattle.rules.proofs.Accepted.{Accepted, accepted, all-below, below-first}
 use Rattle.laws.specs.Laws.{Prefix, of, InLine, LockRun, ticket-run, queue-run, Within, ComesNext, was-granted, is-first}
 use Rattle.laws.proofs.Locks.{in-line, good}
@@ -26,16 +27,6 @@ use Rattle.laws.proofs.McsTurns.{queue}
 pub line : (m : Machine) (s : Settings) (t : List ℕ) → LockRun m s t → InLine m s t
 line m s t (ticket-run small first b) = in-line ticket.machine s (tickets.ticket s small first) t b
 line m s t (queue-run b) = in-line mcs.machine s (queue s) t b
-
--- every line of the list has P, and so has the line of an unknown number
-abbrev Each : (Line → Type 1) → List Line → Type 1
-Each P [] = P noLine
-Each P (l ∷ ls) = P l × Each P ls
-
--- then the line that is found has it
-found : (P : Line → Type 1) (test : Line → Bool) (ls : List Line) → Each P ls → P (find test ls)
-found P test [] h = h
-found P test (l ∷ ls) h = either P (test l) l (find test ls) (h .0) (found P test ls (h .1))
 
 -- a beginning of an accepted schedule is accepted
 pub begun : (s : Settings) (t u : List ℕ) → Accepted s (t ++ u) → Accepted s t
@@ -72,7 +63,7 @@ line-accepted s t u roomy e l = line (machine (s .algo)) s t (lock-run s t (begu
 
 pub distance : (s : Settings) (t : List ℕ) → s .procs ≤ mostTicket + 1 → s .ticket ≤ mostTicket → allBelow (s .procs) t ≡ true
     → Within (s .procs) (whole ticket.machine s t .memory)
-distance s t small first b = tickets.within s small first _ _ _ _ (good ticket.machine s (tickets.ticket s small first) t b .line .inv)
+distance s t small first b = let l = good ticket.machine s (tickets.ticket s small first) t b .line in tickets.within s small first _ _ _ _ (l .inv) (l .below)
 
 -- ---- two locks
 

@@ -21,6 +21,7 @@ use Rattle.rules.proofs.Steps.{goes-other}
 use Rattle.rules.proofs.Accepted.{Below, below}
 use Rattle.rules.proofs.Plays.{by-after, by-turn, continued, whole-snoc}
 use Rattle.laws.specs.Laws.{Prefix, of, Without, InLine}
+use Rattle.laws.proofs.Lists.{below-snoc}
 
 -- ---- what a step of processor i may do with the line, and what it says then
 
@@ -57,7 +58,7 @@ pub record Lock (m : Machine) (s : Settings) : Type 1 where
   pub Inv : Invariant (m .State)
   pub in-it : ℕ
   pub start : Inv (m .start s) (λ i. 1) [] []
-  pub step : (x : m .State) (at : ℕ → ℕ) (i : ℕ) (q g : List ℕ) → i < s .procs → Inv x at q g → After Inv (m .step s x (at i) i) at i q g
+  pub step : (x : m .State) (at : ℕ → ℕ) (i : ℕ) (q g : List ℕ) → Below (s .procs) q → Inv x at q g → After Inv (m .step s x (at i) i) at i q g
   pub waits : (x : m .State) (at : ℕ → ℕ) (f : ℕ) (r : List ℕ) → Inv x at (f ∷ r) []
       → (at f ≢ 1) × (at f ≢ in-it) × (m .step s x (at f) f .says ≡ one grant)
   pub enters-it : (x : m .State) (k i : ℕ) → Enters in-it (m .step s x k i)
@@ -79,6 +80,14 @@ move-holder {i} joins h = still-holder i h
 move-holder enters h = front
 move-holder gets h = front
 move-holder frees h = nobody
+
+-- the line is of processors below p
+move-below : {i : ℕ} {q g q′ g′ : List ℕ} {k : Says} (p : ℕ) → i < p → Moves i q g q′ g′ k → Below p q → Below p q′
+move-below p l rests b = b
+move-below {i} {q} p l joins b = below-snoc p i q l b
+move-below p l enters b = (l, tt)
+move-below p l gets b = b
+move-below p l frees b = b .1
 
 -- what is said fits what is done: who joins comes into the line, who releases leaves it
 move-joined : {i : ℕ} {q g q′ g′ : List ℕ} {k : Says} → Moves i q g q′ g′ k → q ++ of join (said i k) ≡ of release (said i k) ++ q′
@@ -142,6 +151,7 @@ module _ (m : Machine) (s : Settings) (k : Lock m s) where
   -- the line after the events es
   pub record Lined (x : m .State) (c : Course) (es : List Event) (q g : List ℕ) : Type 0 where
     pub inv : k .Inv x (c .at) q g
+    pub below : Below (s .procs) q
     pub holder : Holder q g
     pub joined : of join es ≡ of release es ++ q
     pub granted : of grant es ≡ of release es ++ g
@@ -189,9 +199,9 @@ module _ (m : Machine) (s : Settings) (k : Lock m s) where
   one-turn x c es i q g b l =
       by-turn m s x c i (λ t. Then i (course.memory t x) (course.course s i t c) (es ++ said i (course.says t)) q g)
       (λ p. quiet i x (course.course {S = m .State} s i holds c) es q g
-      (record { inv = l .inv; holder = l .holder; joined = l .joined; granted = l .granted; held = held-hold c i p (l .held) }))
-      (λ e. quiet i x c es q g l)
-      (λ z. stepped (k .step x (c .at) i q g b (l .inv)))
+      (record { inv = l .inv; below = l .below; holder = l .holder; joined = l .joined; granted = l .granted; held = held-hold c i p (l .held) }))
+      (λ e d. quiet i x c es q g l)
+      (λ z. stepped (k .step x (c .at) i q g (l .below) (l .inv)))
     where
       t : Step (m .State)
       t = m .step s x (c .at i) i
@@ -205,6 +215,7 @@ module _ (m : Machine) (s : Settings) (k : Lock m s) where
         g′ = n .g′;
         line = record {
           inv = n .inv;
+          below = move-below (s .procs) b (n .moves) (l .below);
           holder = move-holder (n .moves) (l .holder);
           joined = rw (of-append join es e, of-append release es e, l .joined)
               (more (of release es) q (n .q′) (of join e) (of release e) (move-joined (n .moves)));
@@ -234,7 +245,7 @@ module _ (m : Machine) (s : Settings) (k : Lock m s) where
 
   -- at first the line is empty
   good-first : Good (first m s)
-  good-first = record { q = []; g = []; line = record { inv = k .start; holder = nobody; joined = refl; granted = refl; held = λ j. inl refl } }
+  good-first = record { q = []; g = []; line = record { inv = k .start; below = tt; holder = nobody; joined = refl; granted = refl; held = λ j. inl refl } }
 
   -- every run has a line
   pub good : (t : List ℕ) → allBelow (s .procs) t ≡ true → Good (whole m s t)
@@ -278,7 +289,7 @@ module _ (m : Machine) (s : Settings) (k : Lock m s) where
       says =
           by-turn m s (r .memory) (r .course) f (λ t. said f (course.says t) ≡ event grant f ∷ [])
           (λ p. absurd (not-held p (w .line .held f)))
-          (λ e. absurd (now .0 e))
+          (λ e d. absurd (now .0 e))
           (λ z. ap (said f) (now .2))
 
   -- demand 3

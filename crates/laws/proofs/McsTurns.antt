@@ -271,7 +271,7 @@ queue s = record {
   Inv = Kept;
   in-it = 7;
   start = record { nodup = tt; line = (refl, refl); out = λ j f. o1 refl };
-  step = λ x at i q g b v. one-turn s x at i q g v;
+  step = λ x at i q g b. one-turn s x at i q g;
   waits = λ x at f r v. first-waits s x at f r v;
   enters-it = enters-7 s;
 }

@@ -17,7 +17,7 @@ use Rattle.rules.specs.Ticket.{State, up, asks, waits, finds, frees, step, mach
 use Rattle.rules.proofs.Store.{upd-same, upd-other, zero-suc, either}
 use Rattle.rules.proofs.Accepted.{Below}
 use Rattle.laws.specs.Laws.{of, Without, Within}
-use Rattle.laws.proofs.Lists.{Mem, NoDup, Place, outside, first, behind, find, without-init, nodup-snoc, pigeon, below-snoc}
+use Rattle.laws.proofs.Lists.{Mem, NoDup, Place, outside, first, behind, find, without-init, nodup-snoc, pigeon}
 use Rattle.laws.proofs.Locks as locks
 use Rattle.laws.proofs.Locks.{joins, gets, After, resting, Enters, no-hold, into}
 
@@ -46,12 +46,11 @@ Line at [] g = g ≡ []
 Line at (a ∷ r) g = Head at a g × Waiting at r
 
 -- n is the number of the first of the line, or of the next to come; who is outside is at step 1; what the releaser found still stands
-record Inv (p : ℕ) (x : State) (at : ℕ → ℕ) (q g : List ℕ) : Type 0 where
+record Inv (x : State) (at : ℕ → ℕ) (q g : List ℕ) : Type 0 where
   n : ℕ
   now : x .release ≡ n % wrap
   tickets : Tickets (x .mine) (x .request) n q
   nodup : NoDup q
-  below : Below p q
   line : Line at q g
   out : (j : ℕ) → Without j q → at j ≡ 1
   kept : (j : ℕ) → at j ≡ 4 → x .found j ≡ x .release
@@ -109,15 +108,15 @@ ticket-of mine request n i [] t m = absurd m
 
 module _ (s : Settings) (small : s .procs ≤ mostTicket + 1) (x : State) (at : ℕ → ℕ) where
   abbrev Next : Step State → ℕ → List ℕ → List ℕ → Type 0
-  Next t i q g = After (Inv (s .procs)) t at i q g
+  Next t i q g = After Inv t at i q g
 
   line-snoc : (i : ℕ) (q g : List ℕ) → Without i q → Line at q g → Line (upd at i 2) (q ++ i ∷ []) g
   line-snoc i [] g f l = (h2 (upd-same at i 2) l, tt)
   line-snoc i (a ∷ r) g f l = (head-keep at i 2 a g (f .0) (l .0), waiting-snoc at i r (f .1) (l .1))
 
   -- 1: i joins
-  turn1 : (i : ℕ) (q g : List ℕ) → i < s .procs → Inv (s .procs) x at q g → Without i q → Next (asks s x i) i q g
-  turn1 i q g b v f = record {
+  turn1 : (i : ℕ) (q g : List ℕ) → Inv x at q g → Without i q → Next (asks s x i) i q g
+  turn1 i q g v f = record {
     q′ = q ++ i ∷ [];
     g′ = g;
     moves = joins;
@@ -126,7 +125,6 @@ module _ (s : Settings) (small : s .procs ≤ mostTicket + 1) (x : State) (at : 
       now = v .now;
       tickets = tickets-snoc (x .mine) (x .request) (v .n) i q f (v .tickets);
       nodup = nodup-snoc i q f (v .nodup);
-      below = below-snoc (s .procs) i q b (v .below);
       line = line-snoc i q g f (v .line);
       out = λ j h. let w = without-init j i q h in upd-other at i 2 j (w .1) ∙ v .out j (w .0);
       kept = λ j e. v .kept j (at-4 at i 2 j (omega arith) e);
@@ -134,11 +132,11 @@ module _ (s : Settings) (small : s .procs ≤ mostTicket + 1) (x : State) (at : 
   }
 
   -- one who waits behind the first: its ticket is not the one that is served
-  wait-turn : (a i : ℕ) (r g : List ℕ) → Inv (s .procs) x at (a ∷ r) g → Mem i r → Next (step s x (at i) i) i (a ∷ r) g
+  wait-turn : (a i : ℕ) (r g : List ℕ) → Below (s .procs) (a ∷ r) → Inv x at (a ∷ r) g → Mem i r → Next (step s x (at i) i) i (a ∷ r) g
   unfolding step
-  wait-turn a i r g v m =
+  wait-turn a i r g b v m =
       let w = ticket-of (x .mine) (x .request) (suc (v .n)) i r (v .tickets .1) m in
-      let l = pigeon (s .procs) (a ∷ r) (v .nodup) (v .below) in
+      let l = pigeon (s .procs) (a ∷ r) (v .nodup) b in
       let z = v .now in
       let k = w .1 in
       let e = w .2 in
@@ -146,7 +144,7 @@ module _ (s : Settings) (small : s .procs ≤ mostTicket + 1) (x : State) (at : 
       rw (waits-at at i r (v .line .1) m, ne-eqb _ _ no) (resting refl v)
 
   -- 2: the first is let in
-  turn2 : (a : ℕ) (r g : List ℕ) → Inv (s .procs) x at (a ∷ r) g → g ≡ [] → Next (waits true s x) a (a ∷ r) g
+  turn2 : (a : ℕ) (r g : List ℕ) → Inv x at (a ∷ r) g → g ≡ [] → Next (waits true s x) a (a ∷ r) g
   turn2 a r g v z = record {
     q′ = a ∷ r;
     g′ = a ∷ [];
@@ -156,7 +154,6 @@ module _ (s : Settings) (small : s .procs ≤ mostTicket + 1) (x : State) (at : 
       now = v .now;
       tickets = v .tickets;
       nodup = v .nodup;
-      below = v .below;
       line = (h3 (upd-same at a 3) refl, waiting-keep at a 3 r (v .nodup .0) (v .line .1));
       out = λ j f. upd-other at a 3 j (Ne·symm (f .0)) ∙ v .out j f;
       kept = λ j e. v .kept j (at-4 at a 3 j (omega arith) e);
@@ -164,13 +161,12 @@ module _ (s : Settings) (small : s .procs ≤ mostTicket + 1) (x : State) (at : 
   }
 
   -- 3: the holder reads
-  turn3 : (a : ℕ) (r g : List ℕ) → Inv (s .procs) x at (a ∷ r) g → g ≡ a ∷ [] → Next (finds s x a) a (a ∷ r) g
+  turn3 : (a : ℕ) (r g : List ℕ) → Inv x at (a ∷ r) g → g ≡ a ∷ [] → Next (finds s x a) a (a ∷ r) g
   turn3 a r g v z = resting refl (record {
     n = v .n;
     now = v .now;
     tickets = v .tickets;
     nodup = v .nodup;
-    below = v .below;
     line = (h4 (upd-same at a 4) z, waiting-keep at a 4 r (v .nodup .0) (v .line .1));
     out = λ j f. upd-other at a 4 j (Ne·symm (f .0)) ∙ v .out j f;
     kept = λ j e. found j e (ℕ-discrete j a);
@@ -181,7 +177,7 @@ module _ (s : Settings) (small : s .procs ≤ mostTicket + 1) (x : State) (at : 
       found j e (no z) = upd-other (x .found) a (x .release) j z ∙ v .kept j (sym (upd-other at a 4 j z) ∙ e)
 
   -- 4: the holder writes, and the next is the first. Nobody else has read to write
-  turn4 : (a : ℕ) (r g : List ℕ) → Inv (s .procs) x at (a ∷ r) g → at a ≡ 4 → g ≡ a ∷ [] → Next (frees s x a) a (a ∷ r) g
+  turn4 : (a : ℕ) (r g : List ℕ) → Inv x at (a ∷ r) g → at a ≡ 4 → g ≡ a ∷ [] → Next (frees s x a) a (a ∷ r) g
   turn4 a r g v h z = record {
     q′ = r;
     g′ = [];
@@ -191,7 +187,6 @@ module _ (s : Settings) (small : s .procs ≤ mostTicket + 1) (x : State) (at : 
       now = up-is (x .found a) (v .n) (v .kept a h ∙ v .now);
       tickets = v .tickets .1;
       nodup = v .nodup .1;
-      below = v .below .1;
       line = next-first r (waiting-keep at a 1 r (v .nodup .0) (v .line .1));
       out = λ j f. gone j f (ℕ-discrete j a);
       kept = λ j e. absurd (alone j e (ℕ-discrete j a) (find j (a ∷ r)));
@@ -212,7 +207,7 @@ module _ (s : Settings) (small : s .procs ≤ mostTicket + 1) (x : State) (at : 
       alone j e (no z) first = z refl
       alone j e (no z) (behind m) = omega (arith, e, upd-other at a 1 j z, waits-at at j r (v .line .1) m)
 
-  head-turn : (a : ℕ) (r g : List ℕ) → Inv (s .procs) x at (a ∷ r) g → Next (step s x (at a) a) a (a ∷ r) g
+  head-turn : (a : ℕ) (r g : List ℕ) → Inv x at (a ∷ r) g → Next (step s x (at a) a) a (a ∷ r) g
   unfolding step
   head-turn a r g v = go (v .line .0)
     where
@@ -221,17 +216,17 @@ module _ (s : Settings) (small : s .procs ≤ mostTicket + 1) (x : State) (at : 
       go (h3 e z) = rw e (turn3 a r g v z)
       go (h4 e z) = rw e (turn4 a r g v e z)
 
-  one-turn : (i : ℕ) (q g : List ℕ) → i < s .procs → Inv (s .procs) x at q g → Next (step s x (at i) i) i q g
+  one-turn : (i : ℕ) (q g : List ℕ) → Below (s .procs) q → Inv x at q g → Next (step s x (at i) i) i q g
   unfolding step
-  one-turn i q g b v = go q v (find i q)
+  one-turn i q g b v = go q b v (find i q)
     where
-      go : (q : List ℕ) → Inv (s .procs) x at q g → Place i q → Next (step s x (at i) i) i q g
-      go q v (outside f) = rw (v .out i f) (turn1 i q g b v f)
-      go q v (first {r = r}) = head-turn i r g v
-      go q v (behind {a = a} {r = r} m) = wait-turn a i r g v m
+      go : (q : List ℕ) → Below (s .procs) q → Inv x at q g → Place i q → Next (step s x (at i) i) i q g
+      go q b v (outside f) = rw (v .out i f) (turn1 i q g v f)
+      go q b v (first {r = r}) = head-turn i r g v
+      go q b v (behind {a = a} {r = r} m) = wait-turn a i r g b v m
 
   -- the first of the line, where nobody holds
-  first-waits : (f : ℕ) (r : List ℕ) → Inv (s .procs) x at (f ∷ r) [] → (at f ≢ 1) × (at f ≢ 3) × (step s x (at f) f .says ≡ one grant)
+  first-waits : (f : ℕ) (r : List ℕ) → Inv x at (f ∷ r) [] → (at f ≢ 1) × (at f ≢ 3) × (step s x (at f) f .says ≡ one grant)
   unfolding step
   first-waits f r v = go (v .line .0)
     where
@@ -254,10 +249,10 @@ enters-3 s x k i = or 1 (no-hold refl) (or 2 (wait (eqb (x .release) (x .mine i)
 
 pub ticket : (s : Settings) → s .procs ≤ mostTicket + 1 → s .ticket ≤ mostTicket → locks.Lock machine s
 ticket s small t = record {
-  Inv = Inv (s .procs);
+  Inv = Inv;
   in-it = 3;
-  start = record { n = s .ticket; now = omega arith; tickets = omega arith; nodup = tt; below = tt; line = refl; out = λ j f. refl; kept = λ j e. absurd (omega arith) };
-  step = λ x at i q g b v. one-turn s small x at i q g b v;
+  start = record { n = s .ticket; now = omega arith; tickets = omega arith; nodup = tt; line = refl; out = λ j f. refl; kept = λ j e. absurd (omega arith) };
+  step = one-turn s small;
   waits = λ x at f r v. first-waits s small x at f r v;
   enters-it = enters-3 s;
 }
@@ -282,9 +277,9 @@ module _ (s : Settings) (small : s .procs ≤ mostTicket + 1) (t : s .ticket ≤
       omega arith
 
   -- the line is no longer than there are processors
-  pub within : Within (s .procs) x
+  pub within : Below (s .procs) q → Within (s .procs) x
   unfolding ticket
-  within = record { distance = length q; at-most = pigeon (s .procs) q (v .nodup) (v .below); apart = apart }
+  within b = record { distance = length q; at-most = pigeon (s .procs) q (v .nodup) b; apart = apart }
 
   -- who is at step 4 has found what stands there
   pub undisturbed : (i : ℕ) → at i ≡ 4 → x .found i ≡ x .release
@@ -299,7 +294,7 @@ module _ (s : Settings) (small : s .procs ≤ mostTicket + 1) (t : s .ticket ≤
       waiting true = let e = v .now in omega arith
       waiting false = let e = v .now in omega arith
 
-      go : (q : List ℕ) (v : Inv (s .procs) x at q g) → Place i q → Raised x i (step s x (at i) i)
+      go : (q : List ℕ) (v : Inv x at q g) → Place i q → Raised x i (step s x (at i) i)
       go q v (outside f) = let e = v .now in rw (v .out i f) (omega arith)
       go q v first = head (v .line .0)
         where

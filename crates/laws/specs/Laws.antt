@@ -9,19 +9,22 @@ use lib.ListN.{length, take, replicate}
 use Rattle.rules.specs.Memory.{pick}
 use Rattle.rules.specs.Bounds.{mostProcs, mostTicket, mostBudget, mostRounds, mostHold, mostTurns, mostDigits, longestFile}
 use Rattle.rules.specs.Settings.{Settings, entry, noSettings}
-use Rattle.rules.specs.Step.{Access, reads, writes, atomics, remote, Kind, number, join, grant, release, leave, Event, event, said, Machine}
-use Rattle.rules.specs.Course.{holds, says}
+use Rattle.rules.specs.Step.{Access, reads, writes, atomics, remote, Kind, number, join, grant, release, arrive, leave, Event, event, said, Next, stay, again, to, over, Machine}
+use Rattle.rules.specs.Course.{Turn, holds, idles, makes, holding, says}
 use Rattle.rules.specs.Tally.{access}
 use Rattle.rules.specs.Play.{Run, first, next, after, play, whole}
 use Rattle.rules.specs.Ticket as ticket
 use Rattle.rules.specs.Mcs as mcs
 use Rattle.rules.specs.Tree as tree
+use Rattle.rules.specs.Dissem as dissem
 use Rattle.rules.specs.Dissem.{doublings}
 use Rattle.rules.specs.Machines.{lock, machines, numbered, machine}
 use Rattle.rules.specs.Rule.{comma, feed, isDigit}
 use Rattle.rules.specs.File.{decimal, text}
-use Rattle.rules.specs.Calls.{over, allBelow, refusal, Record, Reading, refusedRead, reading, Writing, writing, acceptedRun, running}
+use Rattle.rules.specs.Calls as calls
+use Rattle.rules.specs.Calls.{allBelow, refusal, Record, Reading, refusedRead, reading, Writing, writing, acceptedRun, running}
 use Rattle.rules.specs.Cases.{All, cases, requested}
+use Rattle.laws.specs.Slips.{Slip, notCleared, linkedFirst, forgotten, lessThan, untoggled, slip1, slip2, slip3, slip4, slip5a, slip5b, slip6}
 
 -- ---- words
 
@@ -118,6 +121,89 @@ pub record Counters (first : ℕ) (r : Run ticket.State) : Type 0 where
 pub data ComesNext (k f : ℕ) (es : List Event) : Type 0 where
   was-granted : (a b : List ℕ) → length a ≡ k → of grant es ≡ a ++ f ∷ b → ComesNext k f es
   is-first : (b : List ℕ) → length (of grant es) ≡ k → of join es ≡ of grant es ++ f ∷ b → ComesNext k f es
+
+-- ---- going on
+
+-- a spin: the same read again
+abbrev pub spins : Next → Bool
+spins stay = true
+spins (again k) = true
+spins (to k) = false
+spins over = false
+
+-- the turn is a spin or idle
+abbrev pub waits : {S : Type 0} → Turn S → Bool
+waits holds = false
+waits idles = true
+waits (makes w) = spins (w .then)
+
+-- everybody's next turn is a spin or idle, and somebody has passages left
+pub record Standstill (m : Machine) (s : Settings) (r : Run (m .State)) : Type 0 where
+  pub who : ℕ
+  pub one-of-them : who < s .procs
+  pub passages-left : r .course .done who < entry (s .rounds) who
+  pub all-wait : (i : ℕ) → i < s .procs → waits (next m s r i) ≡ true
+
+-- after the turns t it is so for ever, whoever takes the turns u
+abbrev pub Frozen : Machine → Settings → List ℕ → Type 0
+Frozen m s t = (u : List ℕ) → allBelow (s .procs) u ≡ true → Standstill m s (whole m s (t ++ u))
+
+-- a spin changes no memory and starts no hold turns; where the processor goes on at another step, it spins there too
+pub record Steady (m : Machine) : Type 0 where
+  pub memory : (s : Settings) (x : m .State) (k i : ℕ) → spins (m .step s x k i .then) ≡ true → m .step s x k i .memory ≡ x
+  pub no-hold : (s : Settings) (x : m .State) (k i : ℕ) → spins (m .step s x k i .then) ≡ true → holding (m .step s x k i .says) ≡ false
+  pub spins-on : (s : Settings) (x : m .State) (k j i : ℕ) → m .step s x k i .then ≡ again j → spins (m .step s x j i .then) ≡ true
+
+-- everybody has done its passages
+abbrev pub AllDone : {S : Type 0} → Settings → Run S → Type 0
+AllDone s r = (i : ℕ) → i < s .procs → r .course .done i ≡ entry (s .rounds) i
+
+-- a sweep: each processor has a turn
+pub record Sweep (procs : ℕ) (t : List ℕ) : Type 0 where
+  pub each-has : (i : ℕ) → i < procs → 0 < times i t
+  pub no-others : allBelow procs t ≡ true
+
+-- so many sweeps, one after the other
+pub data Sweeps (procs : ℕ) : ℕ → List ℕ → Type 0 where
+  none : Sweeps procs 0 []
+  more : {n : ℕ} {t u : List ℕ} → Sweep procs t → Sweeps procs n u → Sweeps procs (suc n) (t ++ u)
+
+-- a passage makes at most so many steps that are no spins
+abbrev pub mostSteps : {m : Machine} {s : Settings} {t : List ℕ} → LockRun m s t → ℕ
+mostSteps (ticket-run small first below) = 4
+mostSteps (queue-run below) = 9
+
+-- sweeps that suffice: one for each step that is no spin, and for each hold turn
+abbrev pub enough : (steps : ℕ) → Settings → ℕ
+enough steps s = sum (λ i. entry (s .rounds) i * (steps + entry (s .hold) i)) (s .procs)
+
+-- ---- slips
+
+-- the first in line is passed over: nobody holds, `first` waits before all others, and its next turn is taken, but is not its grant
+pub record PassedOver (m : Machine) (s : Settings) (t : List ℕ) : Type 0 where
+  pub nobody-holds : length (of grant (whole m s t .events)) ≡ length (of release (whole m s t .events))
+  pub first : ℕ
+  pub behind : List ℕ
+  pub in-line : of join (whole m s t .events) ≡ of grant (whole m s t .events) ++ first ∷ behind
+  pub one-of-them : first < s .procs
+  pub taken : whole m s (t ++ first ∷ []) .taken ≡ suc (whole m s t .taken)
+  pub not-granted : whole m s (t ++ first ∷ []) .events ≢ whole m s t .events ++ event grant first ∷ []
+
+-- the grants are not the first so many joins
+abbrev pub OutOfOrder : List Event → Type 0
+OutOfOrder es = ¬ (Prefix (of grant es) (of join es))
+
+-- somebody has left the barrier more often than another has arrived
+pub record Early (procs : ℕ) (es : List Event) : Type 0 where
+  pub left : ℕ
+  pub missing : ℕ
+  pub one-of-them : missing < procs
+  pub before : times missing (of arrive es) < times left (of leave es)
+
+-- the order freezes the wrong machine; with it, and the rest, the right one has done all passages
+pub record Freezes (w : Slip) : Type 0 where
+  pub frozen : Frozen (w .wrong) (w .settings) (w .order)
+  pub right : AllDone (w .settings) (whole (w .right) (w .settings) (w .order ++ w .rest))
 
 -- ---- calls of run
 
@@ -315,6 +401,44 @@ pub record Runs : Type 1 where
       → Prefix (of join (eventsOf s t)) (of join (eventsOf w u))
       → (k f g : ℕ) → ComesNext k f (eventsOf s t) → ComesNext k g (eventsOf w u) → f ≡ g
 
+-- no lock freezes
+pub record Going : Type 1 where
+  -- a standstill lasts; so it does in each of the machines
+  pub lasts : (m : Machine) → Steady m → (s : Settings) (t : List ℕ) → Standstill m s (whole m s t) → Frozen m s t
+  pub steady : (algo : ℕ) → Steady (machine algo)
+  -- after every turn of a lock run: where somebody has a passage left, somebody's next turn is neither a spin nor idle
+  pub unstuck : (m : Machine) (s : Settings) (t : List ℕ) → LockRun m s t → (i : ℕ) → i < s .procs → whole m s t .course .done i < entry (s .rounds) i
+      → (j : ℕ) × (j < s .procs) × (waits (next m s (whole m s t) j) ≡ false)
+  -- so from the state after any schedule all passages are done after enough sweeps, unless the budget stops the run
+  pub finishes : (m : Machine) (s : Settings) (t u : List ℕ) (l : LockRun m s t) → Sweeps (s .procs) (enough (mostSteps l) s) u
+      → whole m s (t ++ u) .stopped ≡ false → AllDone s (whole m s (t ++ u))
+  -- and it never stops the queue lock where it has four references for each of all passages
+  pub never-stopped : (s : Settings) (t : List ℕ) → allBelow (s .procs) t ≡ true → mostReferences * sum (entry (s .rounds)) (s .procs) ≤ s .budget
+      → whole mcs.machine s t .stopped ≡ false
+  -- the runs of accepted files that name a lock are lock runs
+  pub lock-runs : (bytes schedule : List ℕ)
+      → (let r : Reading = reading bytes schedule in
+      r .answer .number ≡ 0 → numbered (settingsOf r .algo) .sort ≡ lock
+      → (t u : List ℕ) → t ++ u ≡ turnsOf r → LockRun (machine (settingsOf r .algo)) (settingsOf r) t)
+
+-- what a trial would have shown: document 01's slips, each by its order of turns
+pub record Slips : Type 1 where
+  -- who is passed over, or let in out of order, is not let in as demand 3 says
+  pub passed-over : (m : Machine) (s : Settings) (t : List ℕ) → PassedOver m s t → ¬ (InLine m s t)
+  pub out-of-order : (m : Machine) (s : Settings) (t : List ℕ) → OutOfOrder (whole m s t .events) → ¬ (InLine m s t)
+  -- 1 to 4 break demand 3 on the way
+  pub one : PassedOver notCleared (slip1 .settings) (take 17 (slip1 .order)) × Freezes slip1
+  pub two : PassedOver linkedFirst (slip2 .settings) (take 7 (slip2 .order)) × Freezes slip2
+  pub three : PassedOver forgotten (slip3 .settings) (take 6 (slip3 .order)) × Freezes slip3
+  pub four : OutOfOrder (whole lessThan (slip4 .settings) (take 3 (slip4 .order)) .events) × Freezes slip4
+  -- 5 in its first form, and 6, only freeze: nobody leaves early
+  pub five : Freezes slip5a
+  pub six : Freezes slip6
+  -- 5 in its second form
+  pub five-b : Early 2 (whole untoggled (slip5b .settings) (slip5b .order) .events)
+      × (¬ (Early 2 (whole dissem.machine (slip5b .settings) (slip5b .order) .events)))
+      × AllDone (slip5b .settings) (whole dissem.machine (slip5b .settings) (slip5b .order ++ slip5b .rest))
+
 -- for all settings, schedules and lent buffers
 pub record Refusals : Type 0 where
   pub write : (s : Settings) (t out : List ℕ)
@@ -426,6 +550,8 @@ pub record Laws : Type 1 where
   pub four : (s : Settings) (t : List ℕ) (i : ℕ) → whole mcs.machine s t .tally .most i ≤ mostReferences
   pub tree-price : TreePrice
   pub runs : Runs
+  pub going : Going
+  pub slips : Slips
   pub refusals : Refusals
   -- read gives 3, 4 and 5 at a number that it has read to its separator; one of six to nine digits in its place is refused alike
   pub judged : (bytes schedule : List ℕ) (number place : ℕ) → 3 ≤ number → number ≤ 5
@@ -437,13 +563,13 @@ pub record Laws : Type 1 where
   pub read-write : (bytes schedule out : List ℕ)
       → (let r : Reading = reading bytes schedule in
       r .answer .number ≡ 0 → length bytes ≤ length out
-      → writing (settingsOf r) (turnsOf r) out ≡ record { answer = record { number = 0; count = length bytes }; out = over bytes out })
+      → writing (settingsOf r) (turnsOf r) out ≡ record { answer = record { number = 0; count = length bytes }; out = calls.over bytes out })
   -- what write accepted, read gives back, settings and schedule
   pub write-read : (s : Settings) (t out schedule : List ℕ)
       → length (s .rounds) ≡ mostProcs → length (s .hold) ≡ mostProcs
       → (let w : Writing = writing s t out in
       w .answer .number ≡ 0 → length t ≤ length schedule
-      → reading (fileOf w) schedule ≡ record { answer = record { number = 0; place = 0; settings = s; count = length t }; schedule = over t schedule })
+      → reading (fileOf w) schedule ≡ record { answer = record { number = 0; place = 0; settings = s; count = length t }; schedule = calls.over t schedule })
   pub longest : Longest
   pub reached : Reached
   pub doublings : Doublings

@@ -1,1 +1,2 @@
+pub mod Slips
 pub mod Laws

@@ -1,4 +1,4 @@
--- Which numbers are those of machines: 1 to `machines`.
+-- Which numbers are those of machines: 1 to `machines`; and what holds of every line of the table.
 use mathlib.Core.Path.{_≡_, refl, sym, _∙_}
 use mathlib.Core.Logic.{_⊎_, inl, inr}
 use mathlib.Core.Bool.{Bool, true, false, _&&_}
@@ -9,8 +9,8 @@ use native.Mathlib.Omega.{arith}
 use borrow.Author.Tests.{eq-eqb, ne-eqb, eqb-true, lt-ltb}
 use lib.Dec.{eqb}
 use lib.ListN.{length}
-use Rattle.rules.specs.Machines.{Line, table, machines, find, numbered, known}
-use Rattle.rules.proofs.Store.{both, false-true}
+use Rattle.rules.specs.Machines.{Line, table, noLine, machines, find, numbered, known}
+use Rattle.rules.proofs.Store.{either, both, false-true}
 
 -- the lines have the numbers from k on, in order
 counts : ℕ → List Line → Bool
@@ -67,3 +67,13 @@ known-range n k = go (decLt n 1) (decLt machines n)
     go (yes h) b = absurd (false-true (sym (unknown-number n (inl h)) ∙ k))
     go (no a) (yes h) = absurd (false-true (sym (unknown-number n (inr h)) ∙ k))
     go (no a) (no b) = (omega arith, omega arith)
+
+-- every line of the list has P, and so has the line of an unknown number
+abbrev pub Each {ℓ} : (Line → Type ℓ) → List Line → Type ℓ
+Each P [] = P noLine
+Each P (l ∷ ls) = P l × Each P ls
+
+-- then the line that is found has it
+pub found {ℓ} : (P : Line → Type ℓ) (test : Line → Bool) (ls : List Line) → Each P ls → P (find test ls)
+found P test [] h = h
+found P test (l ∷ ls) h = either P (test l) l (find test ls) (h .0) (found P test ls (h .1))

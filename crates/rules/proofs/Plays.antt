@@ -13,7 +13,7 @@ use Rattle.rules.specs.Settings.{Settings, entry}
 use Rattle.rules.specs.Step.{Machine}
 use Rattle.rules.specs.Course.{Course, Turn, holds, idles, makes, turn}
 use Rattle.rules.specs.Play.{Run, first, taking, ended, within, after, play, whole}
-use Rattle.rules.proofs.Store.{by-test, left-of, false-true}
+use Rattle.rules.proofs.Store.{by-test, both, false-true}
 
 -- ---- the budget
 
@@ -45,12 +45,12 @@ by-after m s r i P a b c = go (r .stopped) (within (taking m s r i .tally .total
 
 -- a turn: a hold turn, idle, or a step
 pub by-turn : (m : Machine) (s : Settings) (x : m .State) (c : Course) (i : ℕ) (P : Turn (m .State) → Type 0)
-    → (0 < c .left i → P holds) → (c .at i ≡ 1 → P idles) → (c .left i ≡ 0 → P (makes (m .step s x (c .at i) i))) → P (turn m s x c i)
+    → (0 < c .left i → P holds) → (c .at i ≡ 1 → c .done i ≡ entry (s .rounds) i → P idles) → (c .left i ≡ 0 → P (makes (m .step s x (c .at i) i))) → P (turn m s x c i)
 unfolding turn
 by-turn m s x c i P a b d =
     by-test P (ltb 0 (c .left i)) _ _ (λ e. a (ltb-true _ _ e)) (λ e.
     let z = ltb-false 0 (c .left i) e in
-    by-test P (eqb (c .at i) 1 && eqb (c .done i) (entry (s .rounds) i)) _ _ (λ f. b (eqb-true _ _ (left-of _ _ f))) (λ f. d (omega arith)))
+    by-test P (eqb (c .at i) 1 && eqb (c .done i) (entry (s .rounds) i)) _ _ (λ f. let w = both _ _ f in b (eqb-true _ _ (w .0)) (eqb-true _ _ (w .1))) (λ f. d (omega arith)))
 
 -- ---- a schedule
 

@@ -1,0 +1,171 @@
+-- Each slip of document 01 is shown by its order of turns.
+use mathlib.Core.Path.{_≡_, refl, sym, ap, _∙_}
+use mathlib.Core.Logic.{_≢_}
+use mathlib.Core.Bool.{Bool, true, false, _&&_}
+use mathlib.Core.List.{List, [], _∷_, _++_, append-nil}
+use Prim.Native.Nat.{ℕ, zero, suc, _+_, _-_, _≤_, _<_}
+use native.Mathlib.Omega.{arith}
+use lib.Dec.{eqb, leb}
+use lib.ListN.{length, length-append, take}
+use Rattle.rules.specs.Memory.{upd}
+use Rattle.rules.specs.Settings.{Settings, entry}
+use Rattle.rules.specs.Step.{remote, grant, Event, event, Machine}
+use Rattle.rules.specs.Course.{Turn, turn}
+use Rattle.rules.specs.Play.{next, taking, within, after, play, whole}
+use Rattle.rules.specs.Calls.{allBelow}
+use Rattle.rules.specs.Ticket as ticket
+use Rattle.rules.specs.Mcs as mcs
+use Rattle.rules.specs.Central as central
+use Rattle.rules.specs.Dissem as dissem
+use Rattle.rules.proofs.Store.{either}
+use Rattle.laws.specs.Laws.{times, InLine, waits, AllDone, PassedOver, OutOfOrder, Early, Freezes, Slips}
+use Rattle.laws.specs.Slips.{Slip, notCleared, linkedFirst, forgotten, lessThan, oneParity, toggled, untoggled, resetLate, slip1, slip2, slip3, slip4, slip5a, slip5b, slip6}
+use Rattle.laws.proofs.Waiting.{lasts}
+use Rattle.laws.proofs.Steadiness.{Calm, goes-on, stays, calm-or, AllCalm, steady, ticket-calm, mcs-calm, central-calm, dissem-calm, altered-calm, exchanged-calm}
+
+-- ---- demand 3 broken
+
+passed-over : (m : Machine) (s : Settings) (t : List ℕ) → PassedOver m s t → ¬ (InLine m s t)
+unfolding allBelow
+passed-over m s t p l =
+    let w = l .first-next (p .nobody-holds) (p .first) (p .behind) (p .in-line) [] refl tt in
+    p .not-granted (rw (append-nil t) at w (p .taken))
+
+out-of-order : (m : Machine) (s : Settings) (t : List ℕ) → OutOfOrder (whole m s t .events) → ¬ (InLine m s t)
+out-of-order m s t p l = p (l .granted)
+
+-- a turn that says nothing is no grant
+no-grant : (es : List Event) (f : ℕ) → es ≢ es ++ event grant f ∷ []
+no-grant es f e = omega (arith, ap length e, length-append es (event grant f ∷ []))
+
+-- ---- two boards
+
+module _ (w : Slip) (two : w .settings .procs ≡ 2) where
+  -- what holds of 0 and 1 holds of both
+  both-boards : (P : ℕ → Type 0) → P 0 → P 1 → (i : ℕ) → i < w .settings .procs → P i
+  both-boards P a b zero l = a
+  both-boards P a b (suc zero) l = b
+  both-boards P a b (suc (suc i)) l = absurd (omega arith)
+
+  abbrev wrong : ℕ → Turn (w .wrong .State)
+  wrong i = next (w .wrong) (w .settings) (whole (w .wrong) (w .settings) (w .order)) i
+
+  abbrev right : ℕ → Type 0
+  right i = whole (w .right) (w .settings) (w .order ++ w .rest) .course .done i ≡ entry (w .settings .rounds) i
+
+  freezes : AllCalm (w .wrong) → (who : ℕ) → who < 2
+      → whole (w .wrong) (w .settings) (w .order) .course .done who < entry (w .settings .rounds) who
+      → waits (wrong 0) ≡ true → waits (wrong 1) ≡ true → right 0 → right 1 → Freezes w
+  freezes calm who l h a b c d = record {
+    frozen = lasts (w .wrong) (steady (w .wrong) calm) (w .settings) (w .order) (record {
+      who = who;
+      one-of-them = omega arith;
+      passages-left = h;
+      all-wait = both-boards (λ i. waits (wrong i) ≡ true) a b;
+    });
+    right = both-boards right c d;
+  }
+
+-- ---- the queue lock
+
+calm1 : AllCalm notCleared
+calm1 = altered-calm mcs.machine 1 _ (λ s x i. goes-on refl) mcs-calm
+
+calm2 : AllCalm linkedFirst
+calm2 = exchanged-calm mcs.machine 3 4 _ _ (λ s x i. goes-on refl) (λ s x i. goes-on refl) mcs-calm
+
+calm3 : AllCalm forgotten
+calm3 = altered-calm mcs.machine 8 _ (λ s x i. goes-on refl) mcs-calm
+
+slip-1 : PassedOver notCleared (slip1 .settings) (take 17 (slip1 .order)) × Freezes slip1
+unfolding whole play after within taking turn remote upd mcs.step
+slip-1 = (
+  record { nobody-holds = refl; first = 1; behind = []; in-line = refl; one-of-them = omega arith; taken = refl; not-granted = no-grant _ 1 },
+  freezes slip1 refl calm1 1 (omega arith) (omega arith) refl refl refl refl,
+)
+
+slip-2 : PassedOver linkedFirst (slip2 .settings) (take 7 (slip2 .order)) × Freezes slip2
+unfolding whole play after within taking turn remote upd mcs.step
+slip-2 = (
+  record { nobody-holds = refl; first = 1; behind = []; in-line = refl; one-of-them = omega arith; taken = refl; not-granted = no-grant _ 1 },
+  freezes slip2 refl calm2 1 (omega arith) (omega arith) refl refl refl refl,
+)
+
+slip-3 : PassedOver forgotten (slip3 .settings) (take 6 (slip3 .order)) × Freezes slip3
+unfolding whole play after within taking turn remote upd mcs.step
+slip-3 = (
+  record { nobody-holds = refl; first = 1; behind = []; in-line = refl; one-of-them = omega arith; taken = refl; not-granted = no-grant _ 1 },
+  freezes slip3 refl calm3 1 (omega arith) (omega arith) refl refl refl refl,
+)
+
+-- ---- the ticket lock
+
+calm4 : AllCalm lessThan
+calm4 = altered-calm ticket.machine 2 _ (λ s x i. wait s x (leb (x .mine i) (x .release))) ticket-calm
+  where
+    wait : (s : Settings) (x : ticket.State) (b : Bool) → Calm x (ticket.waits b s x)
+    wait s x true = goes-on refl
+    wait s x false = stays refl refl refl
+
+-- 1 is let in, and 0 joined first
+slip-4 : OutOfOrder (whole lessThan (slip4 .settings) (take 3 (slip4 .order)) .events) × Freezes slip4
+unfolding whole play after within taking turn remote upd ticket.step
+slip-4 = (
+  λ p. let e = p .adds in let z : _≡_ {A = ℕ} 1 0 = cc in omega arith,
+  freezes slip4 refl calm4 0 (omega arith) (omega arith) refl refl refl refl,
+)
+
+-- ---- barriers
+
+calm5 : (toggle : ℕ → ℕ) → AllCalm (oneParity toggle)
+calm5 toggle = altered-calm dissem.machine 2 _
+    (λ s x i. calm-or (eqb (x .flag i (dissem.variable x i (x .round i))) (x .sense i) && eqb (x .round i + 1) (dissem.doublings (s .procs)))
+    (goes-on refl) (dissem-calm s x 2 i)) dissem-calm
+
+calm6 : AllCalm resetLate
+calm6 = exchanged-calm central.machine 2 3 _ _ (λ s x i. goes-on refl) (λ s x i. goes-on refl) central-calm
+
+slip-5a : Freezes slip5a
+unfolding whole play after within taking turn remote upd dissem.step dissem.doublings dissem.doubled
+slip-5a = freezes slip5a refl (calm5 (λ v. 1 - v)) 0 (omega arith) (omega arith) refl refl refl refl
+
+slip-6 : Freezes slip6
+unfolding whole play after within taking turn remote upd central.step
+slip-6 = freezes slip6 refl calm6 0 (omega arith) (omega arith) refl refl refl refl
+
+-- 0 has left twice, 1 has arrived once
+early : Early 2 (whole untoggled (slip5b .settings) (slip5b .order) .events)
+unfolding whole play after within taking turn remote upd dissem.step dissem.doublings dissem.doubled
+early = record { left = 0; missing = 1; one-of-them = omega arith; before = omega arith }
+
+-- with the right barrier 0 has left once, and both have arrived
+not-early : ¬ (Early 2 (whole dissem.machine (slip5b .settings) (slip5b .order) .events))
+unfolding whole play after within taking turn remote upd dissem.step dissem.doublings dissem.doubled
+not-early e = go (e .missing) (e .one-of-them) (e .before)
+  where
+    once : times (e .left) (0 ∷ []) ≤ 1
+    once = either (λ n. n + 0 ≤ 1) (eqb 0 (e .left)) 1 0 (omega arith) (omega arith)
+
+    go : (j : ℕ) → j < 2 → times j (0 ∷ 1 ∷ 0 ∷ []) < times (e .left) (0 ∷ []) → ⊥
+    go zero l h = omega (arith, once)
+    go (suc zero) l h = omega (arith, once)
+    go (suc (suc j)) l h = omega arith
+
+slip-5b : Early 2 (whole untoggled (slip5b .settings) (slip5b .order) .events)
+    × (¬ (Early 2 (whole dissem.machine (slip5b .settings) (slip5b .order) .events)))
+    × AllDone (slip5b .settings) (whole dissem.machine (slip5b .settings) (slip5b .order ++ slip5b .rest))
+unfolding whole play after within taking turn remote upd dissem.step dissem.doublings dissem.doubled
+slip-5b = (early, not-early, both-boards slip5b refl (right slip5b refl) refl refl)
+
+pub slips : Slips
+slips = record {
+  passed-over = passed-over;
+  out-of-order = out-of-order;
+  one = slip-1;
+  two = slip-2;
+  three = slip-3;
+  four = slip-4;
+  five = slip-5a;
+  six = slip-6;
+  five-b = slip-5b;
+}
