@@ -104,7 +104,7 @@ module _ (m : Machine) (s : Settings) where
   -- ---- rounds
 
   -- who is in a passage has one left to do
-  abbrev Due : ℕ → ℕ → ℕ → Type 0
+  abbrev pub Due : ℕ → ℕ → ℕ → Type 0
   Due at done n = (done ≤ n) × ((at ≡ 1) ⊎ (done < n))
 
   due-step : (x : Next) (at done : ℕ → ℕ) (i n : ℕ) → done i < n → Due (goes x i at i) (ends x i done i) n
@@ -119,7 +119,7 @@ module _ (m : Machine) (s : Settings) where
   due-other (to k) at done i j n d h = rw (upd-other at i k j d) h
   due-other over at done i j n d h = rw (upd-other at i 1 j d, upd-other done i (done i + 1) j d) h
 
-  abbrev AllDue : Course → Type 0
+  abbrev pub AllDue : Course → Type 0
   AllDue c = (j : ℕ) → Due (c .at j) (c .done j) (entry (s .rounds) j)
 
   due-turn : (x : m .State) (c : Course) (i : ℕ) → AllDue c → AllDue (course s i (turn m s x c i) c)
@@ -140,15 +140,15 @@ module _ (m : Machine) (s : Settings) where
       go e j (yes d) = rw d (due-step (m .step s x (c .at i) i .then) (c .at) (c .done) i (entry (s .rounds) i) (due _ _ refl refl e (h i)))
       go e j (no d) = due-other (m .step s x (c .at i) i .then) (c .at) (c .done) i j (entry (s .rounds) j) d (h j)
 
-  within-rounds : (t : List ℕ) (i : ℕ) → whole m s t .course .done i ≤ entry (s .rounds) i
+  pub all-due : (t : List ℕ) → AllDue (whole m s t .course)
   unfolding taking
-  within-rounds t i =
+  all-due =
       by-whole m s (λ r. AllDue (r .course)) (λ r j h. by-after m s r j (λ q. AllDue (q .course)) h h (λ l. due-turn (r .memory) (r .course) j h))
-      (λ j. (omega arith, inl refl)) t i .0
+      (λ j. (omega arith, inl refl))
 
 pub courses : Courses
 courses = record {
-  rounds = within-rounds;
+  rounds = λ m s t i. all-due m s t i .0;
   hold-turns = λ m s t u i h e l.
       is-hold m s (whole m s (t ++ i ∷ u) .memory) (whole m s (t ++ i ∷ u) .course) i (omega (arith, held m s t u i h e (omega arith)));
   hold-over = λ m s t u i h e l.

@@ -15,6 +15,7 @@ pub mod TreeCost
 pub mod Waiting
 pub mod Steadiness
 pub mod Slips
+pub mod Unstuck
 pub mod Doubling
 pub mod Refusals
 pub mod Runs

@@ -20,8 +20,8 @@ use Rattle.rules.proofs.Store.{upd-same, upd-other, zero-suc}
 use Rattle.rules.proofs.Steps.{goes-other}
 use Rattle.rules.proofs.Accepted.{Below, below}
 use Rattle.rules.proofs.Plays.{by-after, by-turn, continued, whole-snoc}
-use Rattle.laws.specs.Laws.{Prefix, of, Without, InLine}
-use Rattle.laws.proofs.Lists.{below-snoc}
+use Rattle.laws.specs.Laws.{Prefix, of, Without, InLine, spins}
+use Rattle.laws.proofs.Lists.{Mem, below-snoc}
 
 -- ---- what a step of processor i may do with the line, and what it says then
 
@@ -52,8 +52,15 @@ pub data Enters {S : Type 0} (k : ℕ) (t : Step S) : Type 0 where
   no-hold : holding (t .says) ≡ false → Enters k t
   into : t .then ≡ to k → Enters k t
 
+-- one of the line q who is at a step that is no spin, and not the first
+pub record Goes (m : Machine) (s : Settings) (x : m .State) (at : ℕ → ℕ) (q : List ℕ) : Type 0 where
+  pub who : ℕ
+  pub in-line : Mem who q
+  pub inside : at who ≢ 1
+  pub goes : spins (m .step s x (at who) who .then) ≡ false
+
 -- a lock: an invariant of its variables and the processors' steps, kept by every step; a grant goes to the step `in-it`;
--- and the first in line, where nobody holds, is at a step that grants
+-- the first in line, where nobody holds, is at a step that grants; whoever is in no line goes on, and so does one of every line
 pub record Lock (m : Machine) (s : Settings) : Type 1 where
   pub Inv : Invariant (m .State)
   pub in-it : ℕ
@@ -62,6 +69,8 @@ pub record Lock (m : Machine) (s : Settings) : Type 1 where
   pub waits : (x : m .State) (at : ℕ → ℕ) (f : ℕ) (r : List ℕ) → Inv x at (f ∷ r) []
       → (at f ≢ 1) × (at f ≢ in-it) × (m .step s x (at f) f .says ≡ one grant)
   pub enters-it : (x : m .State) (k i : ℕ) → Enters in-it (m .step s x k i)
+  pub out-goes : (x : m .State) (at : ℕ → ℕ) (i : ℕ) (q g : List ℕ) → Inv x at q g → Without i q → spins (m .step s x (at i) i .then) ≡ false
+  pub line-goes : (x : m .State) (at : ℕ → ℕ) (a : ℕ) (r g : List ℕ) → Inv x at (a ∷ r) g → Goes m s x at (a ∷ r)
 
 -- ---- moves
 
@@ -243,6 +252,10 @@ module _ (m : Machine) (s : Settings) (k : Lock m s) where
   good-play P f [] r b w h = (w, h)
   good-play P f (i ∷ t) r b w h = good-play P f t (after m s r i) (b .1) (later r i (b .0) w .0) (f r i (b .0) w h)
 
+  -- a run that has a line has one whatever turns come next
+  pub good-on : (t : List ℕ) (r : Run (m .State)) → Below (s .procs) t → Good r → Good (play m s t r)
+  good-on t r b w = good-play (λ r. Unit {0}) (λ r i l w h. tt) t r b w tt .0
+
   -- at first the line is empty
   good-first : Good (first m s)
   good-first = record { q = []; g = []; line = record { inv = k .start; below = tt; holder = nobody; joined = refl; granted = refl; held = λ j. inl refl } }
@@ -250,7 +263,7 @@ module _ (m : Machine) (s : Settings) (k : Lock m s) where
   -- every run has a line
   pub good : (t : List ℕ) → allBelow (s .procs) t ≡ true → Good (whole m s t)
   unfolding whole
-  good t b = good-play (λ r. Unit {0}) (λ r i l w h. tt) t (first m s) (below (s .procs) t b) good-first tt .0
+  good t b = good-on t (first m s) (below (s .procs) t b) good-first
 
   -- what holds at first and is kept by every turn of a run that has a line holds of every run
   pub by-good : (P : Run (m .State) → Type 0) → ((r : Run (m .State)) (i : ℕ) → i < s .procs → Good r → P r → P (after m s r i)) → P (first m s)

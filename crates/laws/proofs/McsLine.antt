@@ -34,7 +34,7 @@ pub data Head (s : View) (a : ℕ) (g : List ℕ) : Type 0 where
   h5 : s .at a ≡ 5 → s .locked a ≡ 0 → g ≡ [] → Head s a g
   h7 : s .at a ≡ 7 → g ≡ a ∷ [] → Head s a g
   h8 : s .at a ≡ 8 → g ≡ a ∷ [] → Head s a g
-  h9 : s .at a ≡ 9 → g ≡ a ∷ [] → Head s a g
+  h9 : s .at a ≡ 9 → s .tail ≢ suc a → g ≡ a ∷ [] → Head s a g
   h10 : s .at a ≡ 10 → s .next a ≡ suc (s .succ a) → g ≡ a ∷ [] → Head s a g
 
 -- i is not in the line
@@ -73,12 +73,12 @@ wait-keep s t a b n e p l (w4 x y z u) = w4 (e ∙ x) (p ∙ y) (n ∙ z) (l ∙
 wait-keep s t a b n e p l (w5 x y z) = w5 (e ∙ x) (n ∙ y) (l ∙ z)
 
 pub head-keep : (s t : View) (a : ℕ) (g : List ℕ) → t .at a ≡ s .at a → t .locked a ≡ s .locked a → t .succ a ≡ s .succ a
-    → (s .next a ≢ 0 → t .next a ≡ s .next a) → Head s a g → Head t a g
-head-keep s t a g e l c n (h5 x y z) = h5 (e ∙ x) (l ∙ y) z
-head-keep s t a g e l c n (h7 x z) = h7 (e ∙ x) z
-head-keep s t a g e l c n (h8 x z) = h8 (e ∙ x) z
-head-keep s t a g e l c n (h9 x z) = h9 (e ∙ x) z
-head-keep s t a g e l c n (h10 x y z) = h10 (e ∙ x) (n (λ h. absurd (zero-suc (sym h ∙ y))) ∙ y ∙ ap suc (sym c)) z
+    → (s .next a ≢ 0 → t .next a ≡ s .next a) → (s .tail ≢ suc a → t .tail ≢ suc a) → Head s a g → Head t a g
+head-keep s t a g e l c n d (h5 x y z) = h5 (e ∙ x) (l ∙ y) z
+head-keep s t a g e l c n d (h7 x z) = h7 (e ∙ x) z
+head-keep s t a g e l c n d (h8 x z) = h8 (e ∙ x) z
+head-keep s t a g e l c n d (h9 x y z) = h9 (e ∙ x) (d y) z
+head-keep s t a g e l c n d (h10 x y z) = h10 (e ∙ x) (n (λ h. absurd (zero-suc (sym h ∙ y))) ∙ y ∙ ap suc (sym c)) z
 
 pub out-keep : (s t : View) (i : ℕ) → Same s t i → Out s i → Out t i
 out-keep s t i k (o1 e) = o1 (k .at-is ∙ e)
@@ -99,7 +99,7 @@ line-keep : (s t : View) (i : ℕ) (q g : List ℕ) → t .tail ≡ s .tail → 
 line-keep s t i [] g et k f l = (et ∙ l .0, l .1)
 line-keep s t i (a ∷ r) g et k f l =
     let m = k a (f .0) (f .0) in
-    (head-keep s t a g (m .at-is) (m .locked-is) (m .succ-is) (λ _. m .next-is) (l .0), chain-keep s t i i a r et (m .next-is) k (f .1) (f .1) (l .1))
+    (head-keep s t a g (m .at-is) (m .locked-is) (m .succ-is) (λ _. m .next-is) (λ n e. n (sym et ∙ e)) (l .0), chain-keep s t i i a r et (m .next-is) k (f .1) (f .1) (l .1))
 
 -- ---- a turn that does not change the line: of the head, of one who waits, of one outside
 
@@ -170,7 +170,7 @@ mid-moves s t a i r g v m f k en w =
     let ai : a ≢ i = Ne·symm (without-mem i a r (v .nodup .0) m) in
     record {
       nodup = v .nodup;
-      line = (head-keep s t a g (k .at-is a ai) (k .locked-is a ai) (k .succ-is a) en (v .line .0), f .back t k w);
+      line = (head-keep s t a g (k .at-is a ai) (k .locked-is a ai) (k .succ-is a) en (λ n e. n (sym (k .tail-is) ∙ e)) (v .line .0), f .back t k w);
       out = λ j fj.
           out-keep s t j (mid-same s t i (f .p) j k (Ne·symm (without-mem i j r (fj .1) m)) (Ne·symm (without-mem (f .p) j (a ∷ r) fj (f .mem)))) (v .out j fj);
     }

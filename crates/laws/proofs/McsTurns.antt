@@ -1,12 +1,13 @@
 -- Every step keeps the line of the MCS lock.
 use mathlib.Core.Path.{_≡_, refl, sym, ap, _∙_}
-use mathlib.Core.Logic.{_≢_, Ne·symm}
+use mathlib.Core.Logic.{_≢_, inl, inr, Ne·symm}
 use mathlib.Core.Bool.{Bool, true, false}
 use mathlib.Core.List.{List, [], _∷_, _++_}
 use Prim.Native.Nat.{ℕ, zero, suc}
 use native.Mathlib.Nat.{suc-inj}
 use native.Mathlib.Decide.{ℕ-discrete}
 use native.Mathlib.Omega.{arith}
+use borrow.Author.Tests.{eqb-false}
 use lib.Dec.{eqb, eqb→eq}
 use lib.ListN.{length}
 use Rattle.rules.specs.Memory.{pick, upd}
@@ -14,7 +15,7 @@ use Rattle.rules.specs.Settings.{Settings}
 use Rattle.rules.specs.Step.{grant, one, Step}
 use Rattle.rules.specs.Mcs.{State, setTail, setNext, setLocked, setPred, setSucc, clears, swaps, waits, looks, drains, rereads, wakes, step, machine}
 use Rattle.rules.proofs.Store.{upd-same, upd-other, zero-suc, either}
-use Rattle.laws.specs.Laws.{Without}
+use Rattle.laws.specs.Laws.{Without, spins}
 use Rattle.laws.proofs.Lists.{Mem, Place, outside, first, behind, find, without-init, nodup-snoc}
 use Rattle.laws.proofs.Locks as locks
 use Rattle.laws.proofs.Locks.{joins, enters, gets, frees, After, resting, Enters, no-hold, into}
@@ -95,7 +96,7 @@ module _ (s : Settings) (x : State) (at : ℕ → ℕ) where
       go (no h) = out-keep (view x at) t j (k j h (n h)) (v .out j (Ne·symm h, f))
 
   turn8 : (a : ℕ) (r g : List ℕ) → Kept x at (a ∷ r) g → g ≡ a ∷ [] → (d : Bool) → eqb (x .tail) (suc a) ≡ d → Next (drains d s x) at a (a ∷ r) g
-  turn8 a r g v z false e = resting refl (goes-to a r g v 9 g (h9 (upd-same at a 9) z))
+  turn8 a r g v z false e = resting refl (goes-to a r g v 9 g (h9 (upd-same at a 9) (eqb-false (x .tail) (suc a) e) z))
   turn8 a [] g v z true e = record {
     q′ = [];
     g′ = [];
@@ -146,7 +147,7 @@ module _ (s : Settings) (x : State) (at : ℕ → ℕ) where
       go (h5 e l z) = rw (e, l) (turn5 a r g v z)
       go (h7 e z) = rw e (turn7 a r g v (x .next a) refl z)
       go (h8 e z) = rw e (turn8 a r g v z (eqb (x .tail) (suc a)) refl)
-      go (h9 e z) = rw e (turn9 a r g v (x .next a) refl z)
+      go (h9 e n z) = rw e (turn9 a r g v (x .next a) refl z)
       go (h10 e n z) = rw e (turn10 a r g v z n)
 
   -- ---- one outside: 1 and 2
@@ -188,7 +189,7 @@ module _ (s : Settings) (x : State) (at : ℕ → ℕ) where
     inv = record {
       nodup = nodup-snoc i (a ∷ r) f (v .nodup);
       line = (
-        head-keep (view x at) t a g (k a (f .0) (f .0) .at-is) refl refl (λ _. refl) (v .line .0),
+        head-keep (view x at) t a g (k a (f .0) (f .0) .at-is) refl refl (λ _. refl) (λ _ e. f .0 (sym (suc-inj e))) (v .line .0),
         chain-snoc t a i p r e refl en (upd-same at i 3) (upd-same (x .pred) i p) k (f .0) (f .1) (v .line .1),
       );
       out = still-out t i (a ∷ r) g v k;
@@ -233,7 +234,7 @@ module _ (s : Settings) (x : State) (at : ℕ → ℕ) where
       go (h5 e l z) = (omega arith, omega arith, rw (e, l) refl)
       go (h7 e z) = absurd (zero-suc (ap length z))
       go (h8 e z) = absurd (zero-suc (ap length z))
-      go (h9 e z) = absurd (zero-suc (ap length z))
+      go (h9 e n z) = absurd (zero-suc (ap length z))
       go (h10 e n z) = absurd (zero-suc (ap length z))
 
 -- only a grant starts hold turns, and it goes to 7
@@ -266,6 +267,51 @@ enters-7 s x k i =
     reread zero = no-hold refl
     reread (suc n) = no-hold refl
 
+-- ---- who goes on
+
+module _ (s : Settings) (x : State) (at : ℕ → ℕ) where
+  out-goes : (i : ℕ) (q g : List ℕ) → Kept x at q g → Without i q → spins (step s x (at i) i .then) ≡ false
+  unfolding step
+  out-goes i q g v f = go (v .out i f)
+    where
+      swap : (n : ℕ) → spins (swaps n s x i .then) ≡ false
+      swap zero = refl
+      swap (suc n) = refl
+
+      go : Out (view x at) i → spins (step s x (at i) i .then) ≡ false
+      go (o1 e) = rw e refl
+      go (o2 e n) = rw e (swap (x .tail))
+
+  -- where the first has to wait for its successor's link, the successor goes on
+  line-goes : (a : ℕ) (r g : List ℕ) → Kept x at (a ∷ r) g → locks.Goes machine s x at (a ∷ r)
+  unfolding step
+  line-goes a r g v = head (v .line .0)
+    where
+      look : (n : ℕ) → spins (looks n x a .then) ≡ false
+      look zero = refl
+      look (suc n) = refl
+
+      drain : (b : Bool) → spins (drains b s x .then) ≡ false
+      drain true = refl
+      drain false = refl
+
+      reread : (n : ℕ) → x .next a ≡ n → at a ≡ 9 → x .tail ≢ suc a → (r : List ℕ) → Chain (view x at) a r → locks.Goes machine s x at (a ∷ r)
+      reread (suc n) h e d r c = record { who = a; in-line = inl refl; inside = omega arith; goes = rw (e, h) refl }
+      reread zero h e d [] c = absurd (d (c .1))
+      reread zero h e d (b ∷ r) c = linking (c .0)
+        where
+          linking : Wait (view x at) a b → locks.Goes machine s x at (a ∷ b ∷ r)
+          linking (w3 f p n) = record { who = b; in-line = inr (inl refl); inside = omega arith; goes = rw f refl }
+          linking (w4 f p n l) = record { who = b; in-line = inr (inl refl); inside = omega arith; goes = rw f refl }
+          linking (w5 f n l) = absurd (zero-suc (sym h ∙ n))
+
+      head : Head (view x at) a g → locks.Goes machine s x at (a ∷ r)
+      head (h5 e l z) = record { who = a; in-line = inl refl; inside = omega arith; goes = rw (e, l) refl }
+      head (h7 e z) = record { who = a; in-line = inl refl; inside = omega arith; goes = rw e (look (x .next a)) }
+      head (h8 e z) = record { who = a; in-line = inl refl; inside = omega arith; goes = rw e (drain (eqb (x .tail) (suc a))) }
+      head (h9 e n z) = reread (x .next a) refl e n r (v .line .1)
+      head (h10 e n z) = record { who = a; in-line = inl refl; inside = omega arith; goes = rw e refl }
+
 pub queue : (s : Settings) → locks.Lock machine s
 queue s = record {
   Inv = Kept;
@@ -274,4 +320,6 @@ queue s = record {
   step = λ x at i q g b. one-turn s x at i q g;
   waits = λ x at f r v. first-waits s x at f r v;
   enters-it = enters-7 s;
+  out-goes = out-goes s;
+  line-goes = line-goes s;
 }

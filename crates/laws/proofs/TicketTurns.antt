@@ -16,7 +16,7 @@ use Rattle.rules.specs.Step.{grant, release, one, said, Step}
 use Rattle.rules.specs.Ticket.{State, up, asks, waits, finds, frees, step, machine}
 use Rattle.rules.proofs.Store.{upd-same, upd-other, zero-suc, either}
 use Rattle.rules.proofs.Accepted.{Below}
-use Rattle.laws.specs.Laws.{of, Without, Within}
+use Rattle.laws.specs.Laws.{of, Without, Within, spins}
 use Rattle.laws.proofs.Lists.{Mem, NoDup, Place, outside, first, behind, find, without-init, nodup-snoc, pigeon}
 use Rattle.laws.proofs.Locks as locks
 use Rattle.laws.proofs.Locks.{joins, gets, After, resting, Enters, no-hold, into}
@@ -235,6 +235,21 @@ module _ (s : Settings) (small : s .procs ≤ mostTicket + 1) (x : State) (at : 
       go (h3 e z) = absurd (zero-suc (ap length z))
       go (h4 e z) = absurd (zero-suc (ap length z))
 
+  -- ---- who goes on
+
+  out-goes : (i : ℕ) (q g : List ℕ) → Inv x at q g → Without i q → spins (step s x (at i) i .then) ≡ false
+  unfolding step
+  out-goes i q g v f = rw (v .out i f) refl
+
+  line-goes : (a : ℕ) (r g : List ℕ) → Inv x at (a ∷ r) g → locks.Goes machine s x at (a ∷ r)
+  unfolding step
+  line-goes a r g v = go (v .line .0)
+    where
+      go : Head at a g → locks.Goes machine s x at (a ∷ r)
+      go (h2 e z) = record { who = a; in-line = inl refl; inside = omega arith; goes = rw (e, eq-eqb _ _ (v .now ∙ sym (v .tickets .0))) refl }
+      go (h3 e z) = record { who = a; in-line = inl refl; inside = omega arith; goes = rw e refl }
+      go (h4 e z) = record { who = a; in-line = inl refl; inside = omega arith; goes = rw e refl }
+
 -- only a grant starts hold turns, and it goes to 3
 enters-3 : (s : Settings) (x : State) (k i : ℕ) → Enters 3 (step s x k i)
 unfolding step
@@ -255,6 +270,8 @@ ticket s small t = record {
   step = one-turn s small;
   waits = λ x at f r v. first-waits s small x at f r v;
   enters-it = enters-3 s;
+  out-goes = out-goes s small;
+  line-goes = line-goes s small;
 }
 
 -- the request counter is as far past the release counter as the line is long

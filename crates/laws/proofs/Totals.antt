@@ -50,6 +50,19 @@ sum-zero : (n : ℕ) → sum (λ j. 0) n ≡ 0
 sum-zero zero = refl
 sum-zero (suc n) = omega (arith, sum-zero n)
 
+-- where no summand is above another's, and at i by d less, the sum is by d less
+pub sum-least : (f g : ℕ → ℕ) (n : ℕ) → ((j : ℕ) → j < n → f j ≤ g j) → sum f n ≤ sum g n
+sum-least f g zero h = omega arith
+sum-least f g (suc n) h = omega (arith, sum-least f g n (λ j l. h j (omega arith)), h n (omega arith))
+
+pub sum-less : (f g : ℕ → ℕ) (i d n : ℕ) → i < n → f i + d ≤ g i → ((j : ℕ) → j < n → f j ≤ g j) → sum f n + d ≤ sum g n
+sum-less f g i d zero l e h = absurd (omega arith)
+sum-less f g i d (suc n) l e h = go (ℕ-discrete n i) (λ l. sum-less f g i d n l e (λ j b. h j (omega arith)))
+  where
+    go : Dec (n ≡ i) → (i < n → sum f n + d ≤ sum g n) → sum f (suc n) + d ≤ sum g (suc n)
+    go (yes z) below = rw z (omega (arith, sum-least f g i (λ j b. h j (omega arith))))
+    go (no z) below = omega (arith, below (omega arith), h n (omega arith))
+
 module _ (m : Machine) (s : Settings) where
   -- ---- by the accesses
 
