@@ -16,6 +16,7 @@ pub mod Waiting
 pub mod Steadiness
 pub mod Slips
 pub mod Unstuck
+pub mod Finishing
 pub mod Doubling
 pub mod Refusals
 pub mod Runs
