@@ -10,6 +10,8 @@ use Rattle.laws.proofs.Lines as lines
 use Rattle.laws.proofs.Counters.{counters, trace}
 use Rattle.laws.proofs.McsCost.{four, four-reached}
 use Rattle.laws.proofs.TreeCost.{tree-price, episode-reached}
+use Rattle.laws.proofs.Going.{going}
+use Rattle.laws.proofs.Slips.{slips}
 use Rattle.laws.proofs.Refusals as refusals
 use Rattle.laws.proofs.Judging.{judged}
 use Rattle.laws.proofs.Runs.{runs}
@@ -39,6 +41,8 @@ all-laws = record {
   four = four;
   tree-price = tree-price;
   runs = runs;
+  going = going;
+  slips = slips;
   refusals = record {
     write = refusals.refusals-write;
     run = refusals.refusals-run;

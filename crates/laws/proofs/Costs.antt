@@ -5,12 +5,14 @@ use mathlib.Core.List.{List}
 use Prim.Native.Nat.{ℕ, _+_, _≤_, max}
 use native.Mathlib.Decide.{ℕ-discrete}
 use native.Mathlib.Omega.{arith}
+use borrow.Author.Tests.{ne-eqb}
+use lib.Dec.{eqb}
 use Rattle.rules.specs.Settings.{Settings}
 use Rattle.rules.specs.Step.{remote, Next, Step, Machine}
 use Rattle.rules.specs.Course.{Course, outset, makes, memory, course}
 use Rattle.rules.specs.Tally.{Tally, blank, begun, tally}
 use Rattle.rules.specs.Play.{Run, taking, after, whole}
-use Rattle.rules.proofs.Store.{upd-same, upd-other}
+use Rattle.rules.proofs.Store.{upd-same, upd-other, either}
 use Rattle.rules.proofs.Steps.{place, goes-same, goes-other, passed, ends-same, ends-other}
 use Rattle.rules.proofs.Plays.{by-after, by-turn, by-whole}
 
@@ -26,6 +28,13 @@ pub record Account : Type 0 where
 
 abbrev pub account : Course → Tally → ℕ → Account
 account c t i = record { at = c .at i; done = c .done i; here = t .here i; far = t .far i; most = t .most i }
+
+-- the references of the passage under way
+pub under-way : (k h : ℕ) → k ≢ 1 → begun k h ≡ h
+under-way k h n = rw (ne-eqb k 1 n) refl
+
+pub begun≤ : (k h : ℕ) → begun k h ≤ h
+begun≤ k h = either (λ n. n ≤ h) (eqb k 1) 0 h (omega arith) (omega arith)
 
 -- after a step of its own, of r references, that goes on so
 abbrev pub stepped : Next → (r : ℕ) → Account → Account
@@ -48,20 +57,20 @@ module _ {S : Type 0} (s : Settings) (c : Course) (t : Tally) (i : ℕ) (w : Ste
       (rw (upd-other (t .here) i _ j n, upd-other (t .far) i _ j n, upd-other (t .most) i _ j n) refl)
 
 module _ (m : Machine) (s : Settings) where
-  abbrev Of : (m .State → Account → Type 0) → ℕ → Run (m .State) → Type 0
+  abbrev pub Of : (m .State → Account → Type 0) → ℕ → Run (m .State) → Type 0
   Of P j r = P (r .memory) (account (r .course) (r .tally) j)
 
   -- a turn of i makes no step; a step of j's own; or one of another's, which leaves the account of j
-  pub by-account : (P : m .State → Account → Type 0) (r : Run (m .State)) (i j : ℕ) → Of P j r
+  pub by-taking : (P : m .State → Account → Type 0) (r : Run (m .State)) (i j : ℕ) → Of P j r
       → (let w : Step (m .State) = m .step s (r .memory) (r .course .at j) j in
       P (w .memory) (after-step j w (account (r .course) (r .tally) j)))
       → (j ≢ i → P (m .step s (r .memory) (r .course .at i) i .memory) (account (r .course) (r .tally) j))
-      → Of P j (after m s r i)
+      → Of P j (taking m s r i)
   unfolding taking
-  by-account P r i j a b o =
-      by-after m s r i (Of P j) a a (λ l. by-turn m s (r .memory) (r .course) i
+  by-taking P r i j a b o =
+      by-turn m s (r .memory) (r .course) i
       (λ t. P (memory t (r .memory)) (account (course s i t (r .course)) (tally i (r .course .at i) t (r .tally)) j))
-      (λ p. a) (λ e d. a) (λ z. go (ℕ-discrete j i)))
+      (λ p. a) (λ e d. a) (λ z. go (ℕ-discrete j i))
     where
       w : Step (m .State)
       w = m .step s (r .memory) (r .course .at i) i
@@ -69,6 +78,14 @@ module _ (m : Machine) (s : Settings) where
       go : Dec (j ≡ i) → P (w .memory) (account (course s i (makes w) (r .course)) (tally i (r .course .at i) (makes w) (r .tally)) j)
       go (yes e) = rw (sym e, own-step s (r .course) (r .tally) j (m .step s (r .memory) (r .course .at j) j)) b
       go (no n) = rw (other-step s (r .course) (r .tally) i w j n) (o n)
+
+  -- the same where the turn may be one that is not taken
+  pub by-account : (P : m .State → Account → Type 0) (r : Run (m .State)) (i j : ℕ) → Of P j r
+      → (let w : Step (m .State) = m .step s (r .memory) (r .course .at j) j in
+      P (w .memory) (after-step j w (account (r .course) (r .tally) j)))
+      → (j ≢ i → P (m .step s (r .memory) (r .course .at i) i .memory) (account (r .course) (r .tally) j))
+      → Of P j (after m s r i)
+  by-account P r i j a b o = by-after m s r i (Of P j) a a (λ l. by-taking P r i j a b o)
 
   -- what holds of every account at first, and is kept by every step, holds of it after every turn
   pub by-accounts : (P : m .State → ℕ → Account → Type 0) → ((i : ℕ) → P (m .start s) i (account outset blank i))

@@ -122,7 +122,7 @@ module _ (m : Machine) (s : Settings) where
   abbrev pub AllDue : Course → Type 0
   AllDue c = (j : ℕ) → Due (c .at j) (c .done j) (entry (s .rounds) j)
 
-  due-turn : (x : m .State) (c : Course) (i : ℕ) → AllDue c → AllDue (course s i (turn m s x c i) c)
+  pub due-turn : (x : m .State) (c : Course) (i : ℕ) → AllDue c → AllDue (course s i (turn m s x c i) c)
   unfolding turn
   due-turn x c i h =
       either (λ (w : Turn (m .State)). AllDue (course s i w c)) (ltb 0 (c .left i)) _ _ h

@@ -15,7 +15,7 @@ use Rattle.rules.specs.File.{whole, file, text}
 use Rattle.rules.specs.Calls.{over, Reading, acceptedRead, readingOf, reading, writeRefusal, Writing, writing}
 use Rattle.rules.proofs.Store.{by-test}
 use Rattle.rules.proofs.Accepted.{Accepted, accepted, accepts}
-use Rattle.laws.specs.Laws.{InLine, Longest, settingsOf, turnsOf, fileOf, farthest}
+use Rattle.laws.specs.Laws.{InLine, LockRun, Longest, settingsOf, turnsOf, fileOf, farthest}
 use Rattle.laws.proofs.Lines.{line, begun, lock-run}
 use Rattle.laws.proofs.RoundTrip.{body, written, Full, exact-body, ending, file-was, file-reads, file-refuses}
 use Rattle.laws.proofs.Near.{extend}
@@ -132,11 +132,18 @@ longest = record {
 
 -- ---- the waiting line
 
--- the run over a beginning of an accepted file's schedule keeps the line, where the file names a lock
+-- the run over a beginning of an accepted file's schedule is a lock run, where the file names a lock
+pub lock-run-file : (bytes schedule : List ℕ)
+    → (let r : Reading = reading bytes schedule in
+    r .answer .number ≡ 0 → numbered (settingsOf r .algo) .sort ≡ lock
+    → (t u : List ℕ) → t ++ u ≡ turnsOf r → LockRun (machine (settingsOf r .algo)) (settingsOf r) t)
+lock-run-file bytes schedule h l t u e =
+    let s : Settings = settingsOf (reading bytes schedule) in lock-run s t (begun s t u (rw (← e) at (read-accepts bytes schedule h .0))) l
+
+-- so it keeps the line
 pub line-file : (bytes schedule : List ℕ)
     → (let r : Reading = reading bytes schedule in
     r .answer .number ≡ 0 → numbered (settingsOf r .algo) .sort ≡ lock
     → (t u : List ℕ) → t ++ u ≡ turnsOf r → InLine (machine (settingsOf r .algo)) (settingsOf r) t)
 line-file bytes schedule h l t u e =
-    let s : Settings = settingsOf (reading bytes schedule) in
-    line (machine (s .algo)) s t (lock-run s t (begun s t u (rw (← e) at (read-accepts bytes schedule h .0))) l)
+    let s : Settings = settingsOf (reading bytes schedule) in line (machine (s .algo)) s t (lock-run-file bytes schedule h l t u e)

@@ -40,8 +40,7 @@ pub data Nearer {S : Type 0} (ahead : Ahead) (h : ℕ) (w : Step S) (v : ℕ) : 
   ends-it : w .then ≡ over → holding (w .says) ≡ false → Nearer ahead h w v
 
 -- a passage has at most so many steps that are no spins
-pub record Passage (m : Machine) (s : Settings) : Type 0 where
-  pub steps : ℕ
+pub record Passage (m : Machine) (s : Settings) (steps : ℕ) : Type 0 where
   pub ahead : Ahead
   pub first : (h : ℕ) → suc (ahead h 1) ≡ steps + h
   pub nearer : (x : m .State) (k i h : ℕ) → Nearer ahead h (m .step s x k i) (ahead h k)
@@ -60,12 +59,12 @@ work-over d w b p l = omega (arith, add-mul d 1 w, one-mul w)
 work-due : (d n w b : ℕ) → 0 < b → b ≤ w → d < n → work d w b + 1 ≤ n * w
 work-due d n w b p l h = omega (arith, work-over d w b p l, mul-le-mul-right w (h))
 
-module _ (m : Machine) (s : Settings) (p : Passage m s) where
+module _ (m : Machine) (s : Settings) (steps : ℕ) (p : Passage m s steps) where
   abbrev hold : ℕ → ℕ
   hold i = entry (s .hold) i
 
   abbrev width : ℕ → ℕ
-  width i = p .steps + hold i
+  width i = steps + hold i
 
   -- the turns of i's passage to come
   abbrev coming : Course → ℕ → ℕ
@@ -167,7 +166,7 @@ module _ (m : Machine) (s : Settings) (p : Passage m s) where
       go (l, inl e) = rw e (omega (arith, p .first (hold j), mul-le-mul-right (width j) l))
       go (l, inr h) = omega (arith, work-due (c .done j) (entry (s .rounds) j) (width j) (coming c j) (omega arith) (f j) h)
 
-  less : (t : List ℕ) → Fit (whole m s t) → (i : ℕ) → i < s .procs → whole m s t .course .done i < entry (s .rounds) i → all (whole m s t) + 1 ≤ enough (p .steps) s
+  less : (t : List ℕ) → Fit (whole m s t) → (i : ℕ) → i < s .procs → whole m s t .course .done i < entry (s .rounds) i → all (whole m s t) + 1 ≤ enough steps s
   less t f i b h =
       sum-less (done (whole m s t .course)) (λ j. entry (s .rounds) j * width j) i 1 (s .procs) b
       (work-due (whole m s t .course .done i) (entry (s .rounds) i) (width i) (coming (whole m s t .course) i) (omega arith) (f i) h)
@@ -220,13 +219,13 @@ module _ (m : Machine) (s : Settings) (p : Passage m s) where
           let others = sweeps-gain n v rest q (good-on m s k t r bt w) (kept t r bt f .0) e′ i b h′ in
           rw (play-append m s t v r) (others .0, omega (arith, one, others .1))
 
-      pub finish : (t u : List ℕ) → allBelow (s .procs) t ≡ true → Sweeps (s .procs) (enough (p .steps) s) u
+      pub finish : (t u : List ℕ) → allBelow (s .procs) t ≡ true → Sweeps (s .procs) (enough steps s) u
           → whole m s (t ++ u) .stopped ≡ false → AllDone s (whole m s (t ++ u))
       finish t u bt a e i b = go (decLt (whole m s (t ++ u) .course .done i) (entry (s .rounds) i))
         where
           go : Dec (whole m s (t ++ u) .course .done i < entry (s .rounds) i) → whole m s (t ++ u) .course .done i ≡ entry (s .rounds) i
           go (no n) = omega (arith, all-due m s (t ++ u) i .0)
           go (yes h) =
-              let g : Fit (whole m s (t ++ u)) × (all (whole m s t) + enough (p .steps) s ≤ all (whole m s (t ++ u))) =
-              rw (continued m s t u) (sweeps-gain (enough (p .steps) s) u a (whole m s t) (good m s k t bt) (fit t bt) (rw (continued m s t u) at e) i b (rw (continued m s t u) at h)) in
+              let g : Fit (whole m s (t ++ u)) × (all (whole m s t) + enough steps s ≤ all (whole m s (t ++ u))) =
+              rw (continued m s t u) (sweeps-gain (enough steps s) u a (whole m s t) (good m s k t bt) (fit t bt) (rw (continued m s t u) at e) i b (rw (continued m s t u) at h)) in
               absurd (omega (arith, g .1, less (t ++ u) (g .0) i b h))

@@ -9,6 +9,7 @@ pub mod TicketTurns
 pub mod Lines
 pub mod Counters
 pub mod Costs
+pub mod Budget
 pub mod McsCost
 pub mod Prices
 pub mod TreeCost
@@ -17,6 +18,7 @@ pub mod Steadiness
 pub mod Slips
 pub mod Unstuck
 pub mod Finishing
+pub mod Passages
 pub mod Doubling
 pub mod Refusals
 pub mod Runs
@@ -33,4 +35,5 @@ pub mod Longest
 pub mod Judging
 pub mod Files
 pub mod OneMore
+pub mod Going
 pub mod All

@@ -2,19 +2,23 @@
 use mathlib.Core.Path.{_≡_, refl}
 use mathlib.Core.Bool.{Bool, true, false}
 use mathlib.Core.List.{List}
-use Prim.Native.Nat.{ℕ, zero, suc, _+_, _≤_}
+use Prim.Native.Nat.{ℕ, zero, suc, _+_, _*_, _≤_}
+use native.Mathlib.Nat.{mul-comm}
 use native.Mathlib.Omega.{arith}
 use lib.Dec.{eqb}
 use Rattle.rules.specs.Memory.{upd, each}
-use Rattle.rules.specs.Settings.{Settings}
+use Rattle.rules.specs.Settings.{Settings, entry}
 use Rattle.rules.specs.Step.{read, write, writes, atomics, remote, Step}
 use Rattle.rules.specs.Course.{turn}
 use Rattle.rules.specs.Tally.{begun}
 use Rattle.rules.specs.Play.{taking, within, after, play, whole}
+use Rattle.rules.specs.Calls.{allBelow}
 use Rattle.rules.specs.Mcs.{State, swaps, waits, looks, drains, rereads, step, machine}
 use Rattle.rules.proofs.Steps.{place, remote≤, own}
-use Rattle.laws.specs.Laws.{mostReferences, threeBoards, fourTurns}
+use Rattle.laws.specs.Laws.{sum, mostReferences, threeBoards, fourTurns}
 use Rattle.laws.proofs.Costs.{Cost, at-most}
+use Rattle.laws.proofs.Totals.{sum-times}
+use Rattle.laws.proofs.Budget.{Inside, never-stopped}
 
 -- how many references of its passage a processor may have made before each step
 data Cap (k h : ℕ) : Type 0 where
@@ -74,6 +78,40 @@ mcs-cost s = record {
   others = λ x l j i k h n c. c;
 }
 
+-- no step but the last leads to step 1
+module _ (s : Settings) (x : State) (i h : ℕ) where
+  inside : (k : ℕ) → Cap k h → Inside (step s x k i .then) k
+  unfolding step
+  inside k (c1 e) = rw e (λ z. omega arith)
+  inside k (c2 e l) = rw e (swap (x .tail))
+    where
+      swap : (n : ℕ) → Inside (swaps n s x i .then) 2
+      swap zero = λ z. omega arith
+      swap (suc n) = λ z. omega arith
+  inside k (c3 e l) = rw e (λ z. omega arith)
+  inside k (c4 e l) = rw e (λ z. omega arith)
+  inside k (c5 e l) = rw e (wait (x .locked i))
+    where
+      wait : (n : ℕ) → Inside (waits n x i .then) 5
+      wait zero = λ z. omega arith
+      wait (suc n) = λ z. omega arith
+  inside k (c7 e l) = rw e (look (x .next i))
+    where
+      look : (n : ℕ) → Inside (looks n x i .then) 7
+      look zero = λ z. omega arith
+      look (suc n) = λ z. omega arith
+  inside k (c8 e l) = rw e (drain (eqb (x .tail) (suc i)))
+    where
+      drain : (b : Bool) → Inside (drains b s x .then) 8
+      drain true = tt
+      drain false = λ z. omega arith
+  inside k (c9 e l) = rw e (reread (x .next i))
+    where
+      reread : (n : ℕ) → Inside (rereads n x i .then) 9
+      reread zero = λ z. omega arith
+      reread (suc n) = λ z. omega arith
+  inside k (c10 e l) = rw e tt
+
 -- no passage, finished or not, makes more than four
 pub four : (s : Settings) (t : List ℕ) (i : ℕ) → whole machine s t .tally .most i ≤ mostReferences
 unfolding mcs-cost
@@ -82,3 +120,9 @@ four s = at-most machine s (mcs-cost s)
 pub four-reached : whole machine threeBoards fourTurns .tally .most 2 ≡ mostReferences
 unfolding whole play after within taking turn remote upd step
 four-reached = refl
+
+-- a budget of four for each of all passages stops no run
+pub four-suffice : (s : Settings) (t : List ℕ) → allBelow (s .procs) t ≡ true → mostReferences * sum (entry (s .rounds)) (s .procs) ≤ s .budget
+    → whole machine s t .stopped ≡ false
+unfolding mcs-cost
+four-suffice s t b h = never-stopped machine s (mcs-cost s) (λ x i c h k. inside s x i h c k) (rw (sum-times _ (entry (s .rounds)) mostReferences (s .procs) (λ i l. mul-comm (entry (s .rounds) i) mostReferences)) h) t b

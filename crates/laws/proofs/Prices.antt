@@ -6,7 +6,6 @@ use mathlib.Core.List.{List, [], _∷_, _++_}
 use Prim.Native.Nat.{ℕ, zero, suc, _+_, _*_, _≤_, _<_}
 use native.Mathlib.Nat.{mul-add, add-mul, one-mul}
 use native.Mathlib.Omega.{arith}
-use borrow.Author.Tests.{ne-eqb}
 use Rattle.rules.specs.Settings.{Settings}
 use Rattle.rules.specs.Step.{remote, Next, stay, again, to, over, Step, Machine}
 use Rattle.rules.specs.Tally.{begun}
@@ -15,8 +14,8 @@ use Rattle.rules.specs.Calls.{allBelow}
 use Rattle.rules.proofs.Steps.{passed}
 use Rattle.rules.proofs.Plays.{whole-snoc}
 use Rattle.laws.specs.Laws.{sum}
-use Rattle.laws.proofs.Totals.{total-summed}
-use Rattle.laws.proofs.Costs.{Account, stepped, after-step, account, by-account, by-accounts, Cost, Capped, capped-start, capped-step, capped-others}
+use Rattle.laws.proofs.Totals.{sum-times, total-summed}
+use Rattle.laws.proofs.Costs.{Account, under-way, stepped, after-step, account, by-account, by-accounts, Cost, Capped, capped-start, capped-step, capped-others}
 
 -- a step made at k, with h references in the passage so far: the last one leaves exactly top, and no other leads to step 1
 abbrev pub Pays : Next → (k h top : ℕ) → Type 0
@@ -36,9 +35,6 @@ pub record Paid (top : ℕ) (a : Account) : Type 0 where
   pub all : a .far ≡ a .done * top + begun (a .at) (a .here)
   pub most : 0 < a .done → a .most ≡ top
 
-under-way : (k h : ℕ) → k ≢ 1 → begun k h ≡ h
-under-way k h n = rw (ne-eqb k 1 n) refl
-
 module _ (top : ℕ) (a : Account) (p : Paid top a) (l : a .most ≤ top) (r : ℕ) (b : begun (a .at) (a .here) + r ≤ top) where
   -- the passage goes on at k
   on : (k : ℕ) → k ≢ 1 → Paid top (stepped (to k) r a)
@@ -56,10 +52,6 @@ last stay k h top d p e = absurd (omega arith)
 last (again j) k h top d p e = absurd (omega arith)
 last (to j) k h top d p e = absurd (omega arith)
 last over k h top d p e = p
-
-sum-times : (f g : ℕ → ℕ) (k n : ℕ) → ((i : ℕ) → i < n → f i ≡ k * g i) → sum f n ≡ k * sum g n
-sum-times f g k zero h = omega arith
-sum-times f g k (suc n) h = omega (arith, sum-times f g k n (λ i l. h i (omega arith)), h n (omega arith), mul-add k (sum g n) (g n))
 
 module _ (m : Machine) (s : Settings) (p : Price m s) where
   abbrev top : ℕ → ℕ

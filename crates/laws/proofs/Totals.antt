@@ -3,8 +3,9 @@ use mathlib.Core.Path.{_≡_, refl, ap}
 use mathlib.Core.Logic.{_≢_}
 use mathlib.Core.Bool.{true}
 use mathlib.Core.List.{List, [], _∷_, _++_}
-use Prim.Native.Nat.{ℕ, zero, suc, _+_, _≤_, _<_}
+use Prim.Native.Nat.{ℕ, zero, suc, _+_, _*_, _≤_, _<_}
 use native.Mathlib.Decide.{ℕ-discrete}
+use native.Mathlib.Nat.{mul-add}
 use native.Mathlib.Omega.{arith}
 use borrow.Author.Tests.{eq-eqb, ne-eqb}
 use lib.Dec.{eqb}
@@ -46,9 +47,13 @@ sum-stored f i v (suc n) h = go (ℕ-discrete n i) (sum-stored f i v n)
     go (yes e) below = rw e (omega (arith, sum-past f i v i (omega arith), upd-same f i v))
     go (no ne) below = omega (arith, below (omega arith), upd-other f i v n ne)
 
-sum-zero : (n : ℕ) → sum (λ j. 0) n ≡ 0
+pub sum-zero : (n : ℕ) → sum (λ j. 0) n ≡ 0
 sum-zero zero = refl
 sum-zero (suc n) = omega (arith, sum-zero n)
+
+pub sum-times : (f g : ℕ → ℕ) (k n : ℕ) → ((i : ℕ) → i < n → f i ≡ k * g i) → sum f n ≡ k * sum g n
+sum-times f g k zero h = omega arith
+sum-times f g k (suc n) h = omega (arith, sum-times f g k n (λ i l. h i (omega arith)), h n (omega arith), mul-add k (sum g n) (g n))
 
 -- where no summand is above another's, and at i by d less, the sum is by d less
 pub sum-least : (f g : ℕ → ℕ) (n : ℕ) → ((j : ℕ) → j < n → f j ≤ g j) → sum f n ≤ sum g n
@@ -90,7 +95,7 @@ module _ (m : Machine) (s : Settings) where
 
   -- ---- by the processors
 
-  summed : (n i at : ℕ) (w : Turn (m .State)) (t : Tally) → i < n → sum (t .far) n ≡ t .total → sum (tally i at w t .far) n ≡ tally i at w t .total
+  pub summed : (n i at : ℕ) (w : Turn (m .State)) (t : Tally) → i < n → sum (t .far) n ≡ t .total → sum (tally i at w t .far) n ≡ tally i at w t .total
   summed n i at holds t b e = e
   summed n i at idles t b e = e
   summed n i at (makes w) t b e = omega (arith, sum-stored (t .far) i (t .far i + remote i (w .access)) n b)
