@@ -2,8 +2,9 @@
 
 use crate::memory::{Address, Memory};
 use crate::notes::{Kind, Notes};
-use crate::routine::Routine;
+use crate::routine::{Routine, Step};
 use crate::settings::{Plan, Settings};
+use crate::slip::{self, Slip};
 
 /// The shared declarations `count` and `sense`, and P.
 pub struct Barrier {
@@ -13,7 +14,7 @@ pub struct Barrier {
 }
 
 /// The program points of `central_barrier`.
-#[derive(Clone, Copy)]
+#[derive(Clone, Copy, PartialEq, Eq, Hash)]
 enum Point {
     /// `local_sense := not local_sense`, `if fetch_and_decrement (&count) = 1`
     CountDown,
@@ -29,7 +30,8 @@ enum Point {
     Idle,
 }
 
-pub struct Central {
+#[derive(Clone, PartialEq, Eq, Hash)]
+pub struct Central<const SLIP: Slip> {
     me: usize,
     hold: u16,
     rounds_left: u16,
@@ -37,7 +39,7 @@ pub struct Central {
     point: Point,
 }
 
-impl Central {
+impl<const SLIP: Slip> Central<SLIP> {
     /// Where the routine stands when no passage and no hold is under way.
     fn outside(&self) -> Point {
         if self.rounds_left == 0 {
@@ -47,19 +49,31 @@ impl Central {
         }
     }
 
-    fn count_down(&mut self, barrier: &Barrier, memory: &mut Memory, notes: &mut Notes) -> Point {
+    fn count_down(
+        &mut self,
+        barrier: &Barrier,
+        memory: &mut Memory,
+        notes: &mut impl Notes,
+    ) -> Point {
         memory.begin_passage(self.me);
         self.local_sense = !self.local_sense;
         let old = memory.fetch_and_decrement(self.me, barrier.count);
         notes.event(Kind::Arrive, self.me);
-        if old == 1 {
-            Point::ResetCount
-        } else {
+        if old != 1 {
             Point::SpinSense
+        } else if SLIP == slip::RESET_AFTER_SENSE {
+            Point::WriteSense
+        } else {
+            Point::ResetCount
         }
     }
 
-    fn spin_sense(&mut self, barrier: &Barrier, memory: &mut Memory, notes: &mut Notes) -> Point {
+    fn spin_sense(
+        &mut self,
+        barrier: &Barrier,
+        memory: &mut Memory,
+        notes: &mut impl Notes,
+    ) -> Point {
         if memory.read(self.me, barrier.sense) == u16::from(self.local_sense) {
             self.left(notes)
         } else {
@@ -68,7 +82,7 @@ impl Central {
         }
     }
 
-    fn left(&mut self, notes: &mut Notes) -> Point {
+    fn left(&mut self, notes: &mut impl Notes) -> Point {
         notes.event(Kind::Leave, self.me);
         notes.passage_done(self.me);
         self.rounds_left -= 1;
@@ -84,7 +98,7 @@ impl Central {
     }
 }
 
-impl Routine for Central {
+impl<const SLIP: Slip> Routine for Central<SLIP> {
     type Shared = Barrier;
 
     fn declare(settings: &Settings, memory: &mut Memory) -> Barrier {
@@ -96,9 +110,9 @@ impl Routine for Central {
         }
     }
 
-    fn new(me: usize, plan: Plan, _barrier: &Barrier) -> Central {
+    fn new(me: usize, plan: Plan, _barrier: &Barrier) -> Self {
         let (hold, rounds_left) = (plan.hold, plan.rounds);
-        let mut routine = Central { me, hold, rounds_left, local_sense: true, point: Point::Idle };
+        let mut routine = Self { me, hold, rounds_left, local_sense: true, point: Point::Idle };
         routine.point = routine.outside();
         routine
     }
@@ -111,17 +125,36 @@ impl Routine for Central {
         }
     }
 
-    fn turn(&mut self, barrier: &Barrier, memory: &mut Memory, notes: &mut Notes) {
+    fn step(&self) -> Step {
+        match self.point {
+            Point::CountDown => Step::Event,
+            Point::ResetCount => Step::Other("reset"),
+            Point::WriteSense => Step::Other("open"),
+            Point::SpinSense => Step::Read,
+            Point::Hold { .. } => Step::Other("hold"),
+            Point::Idle => Step::Other("idle"),
+        }
+    }
+
+    fn turn(&mut self, barrier: &Barrier, memory: &mut Memory, notes: &mut impl Notes) {
         let me = self.me;
         self.point = match self.point {
             Point::CountDown => self.count_down(barrier, memory, notes),
             Point::ResetCount => {
                 memory.write(me, barrier.count, barrier.procs);
-                Point::WriteSense
+                if SLIP == slip::RESET_AFTER_SENSE {
+                    self.left(notes)
+                } else {
+                    Point::WriteSense
+                }
             }
             Point::WriteSense => {
                 memory.write(me, barrier.sense, u16::from(self.local_sense));
-                self.left(notes)
+                if SLIP == slip::RESET_AFTER_SENSE {
+                    Point::ResetCount
+                } else {
+                    self.left(notes)
+                }
             }
             Point::SpinSense => self.spin_sense(barrier, memory, notes),
             Point::Hold { left } => self.holding(left - 1),

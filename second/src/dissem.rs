@@ -2,8 +2,9 @@
 
 use crate::memory::{Address, Memory};
 use crate::notes::{Kind, Notes};
-use crate::routine::Routine;
+use crate::routine::{Routine, Step};
 use crate::settings::{Plan, Settings};
+use crate::slip::{self, Slip};
 
 /// `allnodes`: the `myflags` of every processor, in its own memory. LogP of
 /// the figure is R.
@@ -37,7 +38,7 @@ fn doublings(procs: usize) -> usize {
 }
 
 /// The program points of `dissemination_barrier`.
-#[derive(Clone, Copy)]
+#[derive(Clone, Copy, PartialEq, Eq, Hash)]
 enum Point {
     /// `localflags^.partnerflags[parity][k]^ := sense`
     SignalPartner { k: usize },
@@ -51,7 +52,8 @@ enum Point {
     Idle,
 }
 
-pub struct Dissem {
+#[derive(Clone, PartialEq, Eq, Hash)]
+pub struct Dissem<const SLIP: Slip> {
     me: usize,
     hold: u16,
     rounds_left: u16,
@@ -60,7 +62,7 @@ pub struct Dissem {
     point: Point,
 }
 
-impl Dissem {
+impl<const SLIP: Slip> Dissem<SLIP> {
     /// Where the routine stands when no passage and no hold is under way.
     fn outside(&self, nodes: &Nodes) -> Point {
         if self.rounds_left == 0 {
@@ -72,7 +74,13 @@ impl Dissem {
         }
     }
 
-    fn signal(&self, k: usize, nodes: &Nodes, memory: &mut Memory, notes: &mut Notes) -> Point {
+    fn signal(
+        &self,
+        k: usize,
+        nodes: &Nodes,
+        memory: &mut Memory,
+        notes: &mut impl Notes,
+    ) -> Point {
         if k == 0 {
             memory.begin_passage(self.me);
             notes.event(Kind::Arrive, self.me);
@@ -82,7 +90,13 @@ impl Dissem {
         Point::SpinFlag { k }
     }
 
-    fn spin(&mut self, k: usize, nodes: &Nodes, memory: &mut Memory, notes: &mut Notes) -> Point {
+    fn spin(
+        &mut self,
+        k: usize,
+        nodes: &Nodes,
+        memory: &mut Memory,
+        notes: &mut impl Notes,
+    ) -> Point {
         let flag = nodes.flag(self.me, self.parity, k);
         if memory.read(self.me, flag) != u16::from(self.sense) {
             notes.spin(self.me);
@@ -94,17 +108,27 @@ impl Dissem {
         }
     }
 
-    /// The leaving, with the figure's last lines: the sense is toggled when
-    /// parity is 1, then parity changes.
-    fn left(&mut self, nodes: &Nodes, notes: &mut Notes) -> Point {
+    /// The leaving, with the figure's last lines.
+    fn left(&mut self, nodes: &Nodes, notes: &mut impl Notes) -> Point {
         notes.event(Kind::Leave, self.me);
         notes.passage_done(self.me);
         self.rounds_left -= 1;
-        if self.parity == 1 {
-            self.sense = !self.sense;
-        }
-        self.parity = 1 - self.parity;
+        self.turn_over();
         self.holding(self.hold, nodes)
+    }
+
+    /// The sense is toggled when parity is 1, then parity changes.
+    fn turn_over(&mut self) {
+        match SLIP {
+            slip::ONE_PARITY => self.sense = !self.sense,
+            slip::ONE_PARITY_ONE_SENSE => {}
+            _ => {
+                if self.parity == 1 {
+                    self.sense = !self.sense;
+                }
+                self.parity = 1 - self.parity;
+            }
+        }
     }
 
     fn holding(&self, left: u16, nodes: &Nodes) -> Point {
@@ -116,7 +140,7 @@ impl Dissem {
     }
 }
 
-impl Routine for Dissem {
+impl<const SLIP: Slip> Routine for Dissem<SLIP> {
     type Shared = Nodes;
 
     fn declare(settings: &Settings, memory: &mut Memory) -> Nodes {
@@ -131,8 +155,8 @@ impl Routine for Dissem {
         Nodes { procs, r, flags }
     }
 
-    fn new(me: usize, plan: Plan, nodes: &Nodes) -> Dissem {
-        let mut routine = Dissem {
+    fn new(me: usize, plan: Plan, nodes: &Nodes) -> Self {
+        let mut routine = Self {
             me,
             hold: plan.hold,
             rounds_left: plan.rounds,
@@ -152,7 +176,17 @@ impl Routine for Dissem {
         }
     }
 
-    fn turn(&mut self, nodes: &Nodes, memory: &mut Memory, notes: &mut Notes) {
+    fn step(&self) -> Step {
+        match self.point {
+            Point::SignalPartner { k: 0 } | Point::PassAlone => Step::Event,
+            Point::SignalPartner { .. } => Step::Other("tell"),
+            Point::SpinFlag { .. } => Step::Read,
+            Point::Hold { .. } => Step::Other("hold"),
+            Point::Idle => Step::Other("idle"),
+        }
+    }
+
+    fn turn(&mut self, nodes: &Nodes, memory: &mut Memory, notes: &mut impl Notes) {
         self.point = match self.point {
             Point::SignalPartner { k } => self.signal(k, nodes, memory, notes),
             Point::SpinFlag { k } => self.spin(k, nodes, memory, notes),

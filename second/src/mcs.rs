@@ -2,8 +2,9 @@
 
 use crate::memory::{Address, Memory};
 use crate::notes::{Kind, Notes};
-use crate::routine::Routine;
+use crate::routine::{Routine, Step};
 use crate::settings::{Plan, Settings};
+use crate::slip::{self, Slip};
 
 /// Stands for no processor in `tail` and in `next`.
 const NIL: u16 = u16::MAX;
@@ -23,7 +24,7 @@ pub struct Lock {
 }
 
 /// The program points of `acquire_lock` and `release_lock`.
-#[derive(Clone, Copy)]
+#[derive(Clone, Copy, PartialEq, Eq, Hash)]
 enum Point {
     /// `I->next := nil`
     ClearNext,
@@ -49,14 +50,15 @@ enum Point {
     Idle,
 }
 
-pub struct Mcs {
+#[derive(Clone, PartialEq, Eq, Hash)]
+pub struct Mcs<const SLIP: Slip> {
     me: usize,
     hold: u16,
     rounds_left: u16,
     point: Point,
 }
 
-impl Mcs {
+impl<const SLIP: Slip> Mcs<SLIP> {
     /// Where the routine stands when no passage is under way.
     fn outside(&self) -> Point {
         if self.rounds_left == 0 {
@@ -66,17 +68,21 @@ impl Mcs {
         }
     }
 
-    fn swap_tail(&self, lock: &Lock, memory: &mut Memory, notes: &mut Notes) -> Point {
+    fn swap_tail(&self, lock: &Lock, memory: &mut Memory, notes: &mut impl Notes) -> Point {
         let predecessor = memory.swap(self.me, lock.tail, self.me as u16);
         notes.event(Kind::Join, self.me);
         if predecessor == NIL {
-            self.granted(notes)
+            return self.granted(notes);
+        }
+        let predecessor = predecessor as usize;
+        if SLIP == slip::LINK_BEFORE_LOCKED {
+            Point::Link { predecessor }
         } else {
-            Point::SetLocked { predecessor: predecessor as usize }
+            Point::SetLocked { predecessor }
         }
     }
 
-    fn spin_locked(&self, lock: &Lock, memory: &mut Memory, notes: &mut Notes) -> Point {
+    fn spin_locked(&self, lock: &Lock, memory: &mut Memory, notes: &mut impl Notes) -> Point {
         if memory.read(self.me, lock.qnodes[self.me].locked) == TRUE {
             notes.spin(self.me);
             Point::SpinLocked
@@ -85,7 +91,7 @@ impl Mcs {
         }
     }
 
-    fn granted(&self, notes: &mut Notes) -> Point {
+    fn granted(&self, notes: &mut impl Notes) -> Point {
         notes.event(Kind::Grant, self.me);
         self.holding(self.hold)
     }
@@ -109,16 +115,17 @@ impl Mcs {
         &mut self,
         lock: &Lock,
         memory: &mut Memory,
-        notes: &mut Notes,
+        notes: &mut impl Notes,
     ) -> Point {
-        if memory.compare_and_swap(self.me, lock.tail, self.me as u16, NIL) {
+        let swapped = memory.compare_and_swap(self.me, lock.tail, self.me as u16, NIL);
+        if swapped || SLIP == slip::FAILED_SWAP_RELEASES {
             self.released(notes)
         } else {
             Point::SpinNext
         }
     }
 
-    fn spin_next(&self, lock: &Lock, memory: &mut Memory, notes: &mut Notes) -> Point {
+    fn spin_next(&self, lock: &Lock, memory: &mut Memory, notes: &mut impl Notes) -> Point {
         match memory.read(self.me, lock.qnodes[self.me].next) {
             NIL => {
                 notes.spin(self.me);
@@ -128,7 +135,7 @@ impl Mcs {
         }
     }
 
-    fn released(&mut self, notes: &mut Notes) -> Point {
+    fn released(&mut self, notes: &mut impl Notes) -> Point {
         notes.event(Kind::Release, self.me);
         notes.passage_done(self.me);
         self.rounds_left -= 1;
@@ -136,7 +143,7 @@ impl Mcs {
     }
 }
 
-impl Routine for Mcs {
+impl<const SLIP: Slip> Routine for Mcs<SLIP> {
     type Shared = Lock;
 
     fn declare(settings: &Settings, memory: &mut Memory) -> Lock {
@@ -150,9 +157,9 @@ impl Routine for Mcs {
         Lock { tail, qnodes }
     }
 
-    fn new(me: usize, plan: Plan, _lock: &Lock) -> Mcs {
+    fn new(me: usize, plan: Plan, _lock: &Lock) -> Self {
         let (hold, rounds_left) = (plan.hold, plan.rounds);
-        let mut routine = Mcs { me, hold, rounds_left, point: Point::Idle };
+        let mut routine = Self { me, hold, rounds_left, point: Point::Idle };
         routine.point = routine.outside();
         routine
     }
@@ -160,6 +167,7 @@ impl Routine for Mcs {
     fn touches(&self, lock: &Lock) -> Option<Address> {
         let mine = &lock.qnodes[self.me];
         match self.point {
+            Point::ClearNext if SLIP == slip::NEXT_NOT_CLEARED => None,
             Point::ClearNext | Point::ReadNext | Point::SpinNext => Some(mine.next),
             Point::SwapTail | Point::CompareAndSwapTail => Some(lock.tail),
             Point::SetLocked { .. } | Point::SpinLocked => Some(mine.locked),
@@ -169,22 +177,46 @@ impl Routine for Mcs {
         }
     }
 
-    fn turn(&mut self, lock: &Lock, memory: &mut Memory, notes: &mut Notes) {
+    fn step(&self) -> Step {
+        match self.point {
+            Point::ClearNext if SLIP == slip::NEXT_NOT_CLEARED => Step::Other("nothing"),
+            Point::ClearNext => Step::Other("clear"),
+            Point::SetLocked { .. } => Step::Other("flag"),
+            Point::Link { .. } => Step::Other("link"),
+            Point::SpinLocked | Point::ReadNext | Point::SpinNext => Step::Read,
+            Point::CompareAndSwapTail => Step::Other("swap"),
+            Point::SwapTail | Point::Unlock { .. } => Step::Event,
+            Point::Hold { .. } => Step::Other("hold"),
+            Point::Idle => Step::Other("idle"),
+        }
+    }
+
+    fn turn(&mut self, lock: &Lock, memory: &mut Memory, notes: &mut impl Notes) {
         let me = self.me;
         self.point = match self.point {
             Point::ClearNext => {
                 memory.begin_passage(me);
-                memory.write(me, lock.qnodes[me].next, NIL);
+                if SLIP != slip::NEXT_NOT_CLEARED {
+                    memory.write(me, lock.qnodes[me].next, NIL);
+                }
                 Point::SwapTail
             }
             Point::SwapTail => self.swap_tail(lock, memory, notes),
             Point::SetLocked { predecessor } => {
                 memory.write(me, lock.qnodes[me].locked, TRUE);
-                Point::Link { predecessor }
+                if SLIP == slip::LINK_BEFORE_LOCKED {
+                    Point::SpinLocked
+                } else {
+                    Point::Link { predecessor }
+                }
             }
             Point::Link { predecessor } => {
                 memory.write(me, lock.qnodes[predecessor].next, me as u16);
-                Point::SpinLocked
+                if SLIP == slip::LINK_BEFORE_LOCKED {
+                    Point::SetLocked { predecessor }
+                } else {
+                    Point::SpinLocked
+                }
             }
             Point::SpinLocked => self.spin_locked(lock, memory, notes),
             Point::Hold { left } => self.holding(left - 1),

@@ -2,9 +2,10 @@
 //! access that comes from a processor other than the home.
 
 /// Where a variable stands in the shared memory.
-#[derive(Clone, Copy, Debug, PartialEq, Eq)]
+#[derive(Clone, Copy, Debug, PartialEq, Eq, Hash)]
 pub struct Address(usize);
 
+#[derive(Clone, Copy)]
 struct Variable {
     home: usize,
     value: u16,
@@ -21,6 +22,7 @@ pub struct References {
     pub most: u32,
 }
 
+#[derive(Clone)]
 pub struct Memory {
     variables: Vec<Variable>,
     references: Vec<References>,
@@ -50,6 +52,11 @@ impl Memory {
 
     pub fn references(&self, processor: usize) -> References {
         self.references[processor]
+    }
+
+    /// The values of all variables, in the order of their placing.
+    pub fn values(&self) -> impl Iterator<Item = u16> + '_ {
+        self.variables.iter().map(|variable| variable.value)
     }
 
     /// From here on the processor's references belong to a new passage.

@@ -24,31 +24,47 @@ pub struct Tally {
     pub idle: u32,
 }
 
-pub struct Notes {
+/// A routine is compiled for each kind of notes by itself: those of the trace
+/// cost the ordinary run nothing.
+pub trait Notes {
+    fn event(&mut self, kind: Kind, processor: usize);
+
+    fn passage_done(&mut self, processor: usize);
+
+    /// A read that has to be made again.
+    fn spin(&mut self, processor: usize);
+
+    fn idle(&mut self, processor: usize);
+}
+
+/// The notes of a whole run.
+#[derive(Clone)]
+pub struct Journal {
     pub events: Vec<Event>,
     pub tallies: Vec<Tally>,
 }
 
-impl Notes {
+impl Journal {
     /// No turn notes more than two events.
-    pub fn new(procs: usize, turns: usize) -> Notes {
-        Notes { events: Vec::with_capacity(2 * turns), tallies: vec![Tally::default(); procs] }
+    pub fn new(procs: usize, turns: usize) -> Journal {
+        Journal { events: Vec::with_capacity(2 * turns), tallies: vec![Tally::default(); procs] }
     }
+}
 
-    pub fn event(&mut self, kind: Kind, processor: usize) {
+impl Notes for Journal {
+    fn event(&mut self, kind: Kind, processor: usize) {
         self.events.push(Event { kind, processor: processor as u8 });
     }
 
-    pub fn passage_done(&mut self, processor: usize) {
+    fn passage_done(&mut self, processor: usize) {
         self.tallies[processor].done += 1;
     }
 
-    /// A read that has to be made again.
-    pub fn spin(&mut self, processor: usize) {
+    fn spin(&mut self, processor: usize) {
         self.tallies[processor].spins += 1;
     }
 
-    pub fn idle(&mut self, processor: usize) {
+    fn idle(&mut self, processor: usize) {
         self.tallies[processor].idle += 1;
     }
 }

@@ -1,15 +1,13 @@
 //! Plays a schedule: each turn lets one processor's routine make its next
 //! access, until the schedule is used up or the budget would be passed.
 
-use crate::central::Central;
-use crate::dissem::Dissem;
-use crate::mcs::Mcs;
+use crate::machine::{hand_over, Task};
 use crate::memory::Memory;
-use crate::notes::{Event, Notes};
+use crate::notes::{Event, Journal};
 use crate::routine::Routine;
-use crate::settings::{Accepted, Algorithm, Settings};
-use crate::ticket::Ticket;
-use crate::tree::Tree;
+use crate::settings::{Accepted, Settings};
+use crate::slip::Slip;
+use crate::state::State;
 
 #[derive(Clone, Copy, Debug, PartialEq, Eq)]
 pub enum Stop {
@@ -35,44 +33,37 @@ pub struct Outcome {
     pub events: Vec<Event>,
 }
 
-pub fn play(file: &Accepted) -> Outcome {
-    let Accepted { settings, schedule } = file;
-    match settings.algorithm {
-        Algorithm::Ticket => run::<Ticket>(settings, schedule),
-        Algorithm::Mcs => run::<Mcs>(settings, schedule),
-        Algorithm::Central => run::<Central>(settings, schedule),
-        Algorithm::Dissem => run::<Dissem>(settings, schedule),
-        Algorithm::Tree => run::<Tree>(settings, schedule),
+struct Play<'a>(&'a Accepted);
+
+impl Task for Play<'_> {
+    type Answer = Outcome;
+
+    fn with<R: Routine>(self) -> Outcome {
+        run::<R>(&self.0.settings, &self.0.schedule)
     }
+}
+
+/// Nothing if the slip is not one of the file's machine.
+pub fn play(file: &Accepted, slip: Slip) -> Option<Outcome> {
+    hand_over(file.settings.algorithm, slip, Play(file))
 }
 
 fn run<R: Routine>(settings: &Settings, schedule: &[u8]) -> Outcome {
-    let mut memory = Memory::new(settings.procs);
-    let mut notes = Notes::new(settings.procs, schedule.len());
-    let shared = R::declare(settings, &mut memory);
-    let mut routines: Vec<R> = (0..settings.procs)
-        .map(|processor| R::new(processor, settings.plans[processor], &shared))
-        .collect();
-
+    let notes = Journal::new(settings.procs, schedule.len());
+    let (shared, mut state) = State::<R, Journal>::start(settings, notes);
     let mut turns = 0;
     let mut stop = Stop::ScheduleUsedUp;
-    for processor in schedule.iter().map(|&processor| usize::from(processor)) {
-        let routine = &mut routines[processor];
-        let remote =
-            routine.touches(&shared).is_some_and(|address| memory.is_remote(processor, address));
-        let due = memory.total() + u32::from(remote);
-        if due > settings.budget {
+    for &processor in schedule {
+        if !state.turn(usize::from(processor), &shared, settings.budget) {
             stop = Stop::Budget;
             break;
         }
-        routine.turn(&shared, &mut memory, &mut notes);
-        debug_assert_eq!(memory.total(), due);
         turns += 1;
     }
-    outcome(turns, stop, memory, notes)
+    outcome(turns, stop, state.memory, state.notes)
 }
 
-fn outcome(turns: usize, stop: Stop, memory: Memory, notes: Notes) -> Outcome {
+fn outcome(turns: usize, stop: Stop, memory: Memory, notes: Journal) -> Outcome {
     let records = notes.tallies.iter().enumerate().map(|(processor, tally)| {
         let references = memory.references(processor);
         Record {

@@ -4,7 +4,7 @@ use crate::notes::{Event, Kind};
 use crate::play::{Outcome, Record, Stop};
 use crate::reader::Refusal;
 
-fn put_number(out: &mut Vec<u8>, number: usize) {
+pub fn put_number(out: &mut Vec<u8>, number: usize) {
     if number >= 10 {
         put_number(out, number / 10);
     }

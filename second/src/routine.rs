@@ -3,9 +3,20 @@
 use crate::memory::{Address, Memory};
 use crate::notes::Notes;
 use crate::settings::{Plan, Settings};
+use std::hash::Hash;
+
+/// What a turn does, for the trace. What comes of it stands in the notes.
+pub enum Step {
+    /// A read: a spin, or a grant or a leaving, or else a look.
+    Read,
+    /// Its events say it all.
+    Event,
+    /// Anything else, with its word.
+    Other(&'static str),
+}
 
 /// One processor's way through a figure, stopped before its next turn.
-pub trait Routine: Sized {
+pub trait Routine: Clone + Eq + Hash {
     /// The figure's shared declarations: where the shared variables stand.
     type Shared;
 
@@ -19,6 +30,9 @@ pub trait Routine: Sized {
     /// idle turn, or a turn without reference. Changes nothing.
     fn touches(&self, shared: &Self::Shared) -> Option<Address>;
 
+    /// What the next turn will do. Changes nothing.
+    fn step(&self) -> Step;
+
     /// Takes the next turn, with the work up to the next access.
-    fn turn(&mut self, shared: &Self::Shared, memory: &mut Memory, notes: &mut Notes);
+    fn turn(&mut self, shared: &Self::Shared, memory: &mut Memory, notes: &mut impl Notes);
 }

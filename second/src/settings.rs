@@ -10,6 +10,18 @@ pub enum Algorithm {
     Tree,
 }
 
+impl Algorithm {
+    pub fn name(self) -> &'static str {
+        match self {
+            Algorithm::Ticket => "ticket",
+            Algorithm::Mcs => "mcs",
+            Algorithm::Central => "central",
+            Algorithm::Dissem => "dissem",
+            Algorithm::Tree => "tree",
+        }
+    }
+}
+
 /// One processor's line: how many passages it does, how many hold turns
 /// belong to each.
 #[derive(Clone, Copy, Debug, PartialEq, Eq)]

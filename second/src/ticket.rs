@@ -2,8 +2,9 @@
 
 use crate::memory::{Address, Memory};
 use crate::notes::{Kind, Notes};
-use crate::routine::Routine;
+use crate::routine::{Routine, Step};
 use crate::settings::{Plan, Settings};
+use crate::slip::{self, Slip};
 
 /// `type lock`: the request counter and the release counter.
 pub struct Lock {
@@ -12,7 +13,7 @@ pub struct Lock {
 }
 
 /// The program points of `acquire_lock` and `release_lock`.
-#[derive(Clone, Copy)]
+#[derive(Clone, Copy, PartialEq, Eq, Hash)]
 enum Point {
     /// `my_ticket := fetch_and_increment (&L->next_ticket)`
     TakeTicket,
@@ -28,14 +29,15 @@ enum Point {
     Idle,
 }
 
-pub struct Ticket {
+#[derive(Clone, PartialEq, Eq, Hash)]
+pub struct Ticket<const SLIP: Slip> {
     me: usize,
     hold: u16,
     rounds_left: u16,
     point: Point,
 }
 
-impl Ticket {
+impl<const SLIP: Slip> Ticket<SLIP> {
     /// Where the routine stands when no passage is under way.
     fn outside(&self) -> Point {
         if self.rounds_left == 0 {
@@ -50,9 +52,12 @@ impl Ticket {
         my_ticket: u16,
         lock: &Lock,
         memory: &mut Memory,
-        notes: &mut Notes,
+        notes: &mut impl Notes,
     ) -> Point {
-        if memory.read(self.me, lock.now_serving) == my_ticket {
+        let serving = memory.read(self.me, lock.now_serving);
+        let mine =
+            if SLIP == slip::LESS_THAN { serving >= my_ticket } else { serving == my_ticket };
+        if mine {
             notes.event(Kind::Grant, self.me);
             self.holding(self.hold)
         } else {
@@ -69,7 +74,7 @@ impl Ticket {
         }
     }
 
-    fn released(&mut self, notes: &mut Notes) -> Point {
+    fn released(&mut self, notes: &mut impl Notes) -> Point {
         notes.event(Kind::Release, self.me);
         notes.passage_done(self.me);
         self.rounds_left -= 1;
@@ -77,7 +82,7 @@ impl Ticket {
     }
 }
 
-impl Routine for Ticket {
+impl<const SLIP: Slip> Routine for Ticket<SLIP> {
     type Shared = Lock;
 
     fn declare(settings: &Settings, memory: &mut Memory) -> Lock {
@@ -87,9 +92,9 @@ impl Routine for Ticket {
         }
     }
 
-    fn new(me: usize, plan: Plan, _lock: &Lock) -> Ticket {
+    fn new(me: usize, plan: Plan, _lock: &Lock) -> Self {
         let (hold, rounds_left) = (plan.hold, plan.rounds);
-        let mut routine = Ticket { me, hold, rounds_left, point: Point::Idle };
+        let mut routine = Self { me, hold, rounds_left, point: Point::Idle };
         routine.point = routine.outside();
         routine
     }
@@ -104,7 +109,16 @@ impl Routine for Ticket {
         }
     }
 
-    fn turn(&mut self, lock: &Lock, memory: &mut Memory, notes: &mut Notes) {
+    fn step(&self) -> Step {
+        match self.point {
+            Point::TakeTicket | Point::WriteServing { .. } => Step::Event,
+            Point::SpinServing { .. } | Point::ReadServing => Step::Read,
+            Point::Hold { .. } => Step::Other("hold"),
+            Point::Idle => Step::Other("idle"),
+        }
+    }
+
+    fn turn(&mut self, lock: &Lock, memory: &mut Memory, notes: &mut impl Notes) {
         let me = self.me;
         self.point = match self.point {
             Point::TakeTicket => {

@@ -3,7 +3,7 @@
 
 use crate::memory::{Address, Memory};
 use crate::notes::{Kind, Notes};
-use crate::routine::Routine;
+use crate::routine::{Routine, Step};
 use crate::settings::{Plan, Settings};
 
 const SLOTS: usize = 4;
@@ -46,7 +46,7 @@ fn have_child(i: usize, procs: usize) -> [bool; SLOTS] {
 }
 
 /// The program points of `tree_barrier`.
-#[derive(Clone, Copy)]
+#[derive(Clone, Copy, PartialEq, Eq, Hash)]
 enum Point {
     /// `repeat until childnotready = {false, false, false, false}`
     SpinChild { slot: usize },
@@ -64,6 +64,7 @@ enum Point {
     Idle,
 }
 
+#[derive(Clone, PartialEq, Eq, Hash)]
 pub struct Tree {
     me: usize,
     hold: u16,
@@ -92,7 +93,7 @@ impl Tree {
     }
 
     /// The first turn of a passage, whatever it does, is the arrival.
-    fn arrive(&mut self, memory: &mut Memory, notes: &mut Notes) {
+    fn arrive(&mut self, memory: &mut Memory, notes: &mut impl Notes) {
         if !self.arrived {
             self.arrived = true;
             memory.begin_passage(self.me);
@@ -105,7 +106,7 @@ impl Tree {
         slot: usize,
         nodes: &Nodes,
         memory: &mut Memory,
-        notes: &mut Notes,
+        notes: &mut impl Notes,
     ) -> Point {
         self.arrive(memory, notes);
         let flag = nodes.nodes[self.me].child_not_ready[slot];
@@ -118,7 +119,12 @@ impl Tree {
     }
 
     /// All flags in one turn. Processor 0 has no parent to tell or to wait for.
-    fn reset_children(&mut self, nodes: &Nodes, memory: &mut Memory, notes: &mut Notes) -> Point {
+    fn reset_children(
+        &mut self,
+        nodes: &Nodes,
+        memory: &mut Memory,
+        notes: &mut impl Notes,
+    ) -> Point {
         self.arrive(memory, notes);
         let mine = &nodes.nodes[self.me];
         for (flag, there) in mine.child_not_ready.into_iter().zip(mine.have_child) {
@@ -131,7 +137,7 @@ impl Tree {
         }
     }
 
-    fn spin_sense(&mut self, nodes: &Nodes, memory: &mut Memory, notes: &mut Notes) -> Point {
+    fn spin_sense(&mut self, nodes: &Nodes, memory: &mut Memory, notes: &mut impl Notes) -> Point {
         let sense = nodes.nodes[self.me].parent_sense;
         if memory.read(self.me, sense) == u16::from(self.sense) {
             self.wake_from(0, nodes, notes)
@@ -142,7 +148,7 @@ impl Tree {
     }
 
     /// Left first; with nobody more to wake the turn before was the last.
-    fn wake_from(&mut self, side: usize, nodes: &Nodes, notes: &mut Notes) -> Point {
+    fn wake_from(&mut self, side: usize, nodes: &Nodes, notes: &mut impl Notes) -> Point {
         for side in side..SIDES {
             if let Some(child) = nodes.child_sense(self.me, side) {
                 return Point::WakeChild { side, child };
@@ -151,7 +157,7 @@ impl Tree {
         self.left(nodes, notes)
     }
 
-    fn left(&mut self, nodes: &Nodes, notes: &mut Notes) -> Point {
+    fn left(&mut self, nodes: &Nodes, notes: &mut impl Notes) -> Point {
         notes.event(Kind::Leave, self.me);
         notes.passage_done(self.me);
         self.rounds_left -= 1;
@@ -211,7 +217,18 @@ impl Routine for Tree {
         }
     }
 
-    fn turn(&mut self, nodes: &Nodes, memory: &mut Memory, notes: &mut Notes) {
+    fn step(&self) -> Step {
+        match self.point {
+            Point::SpinChild { .. } | Point::SpinSense => Step::Read,
+            Point::ResetChildren => Step::Other("reset"),
+            Point::TellParent => Step::Other("tell"),
+            Point::WakeChild { .. } => Step::Other("wake"),
+            Point::Hold { .. } => Step::Other("hold"),
+            Point::Idle => Step::Other("idle"),
+        }
+    }
+
+    fn turn(&mut self, nodes: &Nodes, memory: &mut Memory, notes: &mut impl Notes) {
         self.point = match self.point {
             Point::SpinChild { slot } => self.spin_child(slot, nodes, memory, notes),
             Point::ResetChildren => self.reset_children(nodes, memory, notes),
