@@ -10,7 +10,7 @@ use Rattle.laws.proofs.Lines as lines
 use Rattle.laws.proofs.Counters.{counters, trace}
 use Rattle.laws.proofs.McsCost.{four, four-reached}
 use Rattle.laws.proofs.TreeCost.{tree-price, episode-reached}
-use Rattle.laws.proofs.Going.{going}
+use Rattle.laws.proofs.Going.{going, sweeps-reached}
 use Rattle.laws.proofs.Slips.{slips}
 use Rattle.laws.proofs.Refusals as refusals
 use Rattle.laws.proofs.Judging.{judged}
@@ -56,6 +56,6 @@ all-laws = record {
   read-write = files.read-write;
   write-read = files.write-read;
   longest = files.longest;
-  reached = record { four = four-reached; episode = episode-reached; longest = files.longest-reached; last-byte = last-byte };
+  reached = record { four = four-reached; episode = episode-reached; sweeps = sweeps-reached; longest = files.longest-reached; last-byte = last-byte };
   doublings = doublings-hold;
 }

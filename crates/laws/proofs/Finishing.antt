@@ -20,6 +20,7 @@ use Rattle.rules.proofs.Steps.{place, goes-same, passed, ends-same}
 use Rattle.rules.proofs.Accepted.{Below, below}
 use Rattle.rules.proofs.Plays.{by-after, by-turn, by-whole, by-play, play-append, goes-on, after-taken, continued}
 use Rattle.laws.specs.Laws.{times, sum, waits, AllDone, Sweep, Sweeps, none, more, enough, Steady}
+use Rattle.laws.proofs.Lists.{below-append}
 use Rattle.laws.proofs.Beginnings.{begins-play}
 use Rattle.laws.proofs.Totals.{sum-least, sum-less}
 use Rattle.laws.proofs.Courses.{Due, all-due}
@@ -44,6 +45,10 @@ pub record Passage (m : Machine) (s : Settings) (steps : ℕ) : Type 0 where
   pub ahead : Ahead
   pub first : (h : ℕ) → suc (ahead h 1) ≡ steps + h
   pub nearer : (x : m .State) (k i h : ℕ) → Nearer ahead h (m .step s x k i) (ahead h k)
+
+pub sweeps-below : {p n : ℕ} {u : List ℕ} → Sweeps p n u → Below p u
+sweeps-below none = tt
+sweeps-below {p} (more {t = t} {u = u} a r) = below-append p t u (below p t (a .no-others)) (sweeps-below r)
 
 -- ---- what a processor has done of its work
 
@@ -166,7 +171,7 @@ module _ (m : Machine) (s : Settings) (steps : ℕ) (p : Passage m s steps) wher
       go (l, inl e) = rw e (omega (arith, p .first (hold j), mul-le-mul-right (width j) l))
       go (l, inr h) = omega (arith, work-due (c .done j) (entry (s .rounds) j) (width j) (coming c j) (omega arith) (f j) h)
 
-  less : (t : List ℕ) → Fit (whole m s t) → (i : ℕ) → i < s .procs → whole m s t .course .done i < entry (s .rounds) i → all (whole m s t) + 1 ≤ enough steps s
+  less : (t : List ℕ) → Fit (whole m s t) → (i : ℕ) → i < s .procs → whole m s t .course .done i < entry (s .rounds) i → all (whole m s t) + 1 ≤ sum (λ j. entry (s .rounds) j * width j) (s .procs)
   less t f i b h =
       sum-less (done (whole m s t .course)) (λ j. entry (s .rounds) j * width j) i 1 (s .procs) b
       (work-due (whole m s t .course .done i) (entry (s .rounds) i) (width i) (coming (whole m s t .course) i) (omega arith) (f i) h)

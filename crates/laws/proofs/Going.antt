@@ -1,14 +1,21 @@
 -- No lock freezes: the laws of it, by their proofs.
-use mathlib.Core.Path.{_≡_}
+use mathlib.Core.Path.{_≡_, refl}
 use mathlib.Core.Bool.{true, false}
-use mathlib.Core.List.{List, _++_}
-use Prim.Native.Nat.{ℕ, _<_}
+use mathlib.Core.List.{List, [], _∷_, _++_}
+use Prim.Native.Nat.{ℕ, zero, suc, _*_, _≤_, _<_}
+use native.Mathlib.Omega.{arith}
+use lib.ListN.{replicate}
+use Rattle.rules.specs.Memory.{upd}
 use Rattle.rules.specs.Settings.{Settings, entry}
-use Rattle.rules.specs.Step.{Machine}
-use Rattle.rules.specs.Play.{next, whole}
+use Rattle.rules.specs.Step.{remote, Machine}
+use Rattle.rules.specs.Course.{turn}
+use Rattle.rules.specs.Play.{next, taking, within, after, play, whole}
+use Rattle.rules.specs.Calls.{allBelow}
 use Rattle.rules.specs.Ticket as ticket
 use Rattle.rules.specs.Mcs as mcs
-use Rattle.laws.specs.Laws.{LockRun, ticket-run, queue-run, waits, AllDone, Sweeps, mostSteps, enough, Going}
+use Rattle.laws.specs.Laws.{sum, times, LockRun, ticket-run, queue-run, waits, AllDone, Sweep, Sweeps, none, more, ticketSteps, queueSteps, mostSteps, enough, mostReferences, oneBoard, Going}
+use Rattle.rules.proofs.Accepted.{below, all-below}
+use Rattle.laws.proofs.Lists.{below-append}
 use Rattle.laws.proofs.Locks.{good}
 use Rattle.laws.proofs.TicketTurns as tickets
 use Rattle.laws.proofs.McsTurns.{queue}
@@ -16,7 +23,7 @@ use Rattle.laws.proofs.McsCost.{four-suffice}
 use Rattle.laws.proofs.Waiting.{lasts}
 use Rattle.laws.proofs.Steadiness.{steady, ticket-calm, mcs-calm, machine-steady}
 use Rattle.laws.proofs.Unstuck.{goer}
-use Rattle.laws.proofs.Finishing.{finish}
+use Rattle.laws.proofs.Finishing.{sweeps-below, finish}
 use Rattle.laws.proofs.Passages.{ticket-passage, mcs-passage}
 use Rattle.laws.proofs.Files.{lock-run-file}
 
@@ -32,6 +39,24 @@ finishes m s t u (ticket-run small first b) =
     finish ticket.machine s 4 (ticket-passage s) (steady ticket.machine ticket-calm) (tickets.ticket s small first) t u b
 finishes m s t u (queue-run b) = finish mcs.machine s 9 (mcs-passage s) (steady mcs.machine mcs-calm) (queue s) t u b
 
+queue-finishes : (s : Settings) (t u : List ℕ) → allBelow (s .procs) t ≡ true → mostReferences * sum (entry (s .rounds)) (s .procs) ≤ s .budget
+    → Sweeps (s .procs) (enough queueSteps s) u → AllDone s (whole mcs.machine s (t ++ u))
+queue-finishes s t u b h a =
+    let all = all-below (s .procs) (t ++ u) (below-append (s .procs) t u (below (s .procs) t b) (sweeps-below a)) in
+    finishes mcs.machine s t u (queue-run b) a (four-suffice s (t ++ u) all h)
+
+-- one board takes six turns for a passage of four steps and two hold turns
+pub sweeps-reached : (enough ticketSteps oneBoard ≡ 6) × Sweeps 1 5 (replicate 5 0) × (whole ticket.machine oneBoard (replicate 5 0) .course .done 0 ≡ 0)
+unfolding allBelow whole play after within taking turn remote upd ticket.step
+sweeps-reached = (refl, more one (more one (more one (more one (more one none)))), refl)
+  where
+    has : (i : ℕ) → i < 1 → 0 < times i (0 ∷ [])
+    has zero l = omega arith
+    has (suc i) l = absurd (omega arith)
+
+    one : Sweep 1 (0 ∷ [])
+    one = record { each-has = has; no-others = refl }
+
 pub going : Going
 going = record {
   lasts = λ m k s. lasts m k s;
@@ -39,5 +64,6 @@ going = record {
   unstuck = unstuck;
   finishes = finishes;
   never-stopped = four-suffice;
+  queue-finishes = queue-finishes;
   lock-runs = lock-run-file;
 }

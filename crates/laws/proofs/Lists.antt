@@ -53,9 +53,9 @@ pub nodup-snoc : (i : ℕ) (r : List ℕ) → Without i r → NoDup r → NoDup 
 nodup-snoc i [] f d = (tt, tt)
 nodup-snoc i (b ∷ r) f d = (without-snoc b i r (d .0) (Ne·symm (f .0)), nodup-snoc i r (f .1) (d .1))
 
-pub below-snoc : (p i : ℕ) (q : List ℕ) → i < p → Below p q → Below p (q ++ i ∷ [])
-below-snoc p i [] h b = (h, tt)
-below-snoc p i (a ∷ q) h b = (b .0, below-snoc p i q h (b .1))
+pub below-append : (p : ℕ) (q r : List ℕ) → Below p q → Below p r → Below p (q ++ r)
+below-append p [] r b c = c
+below-append p (a ∷ q) r b c = (b .0, below-append p q r (b .1) c)
 
 -- ---- no more numbers below p than p
 

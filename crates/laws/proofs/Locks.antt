@@ -21,7 +21,7 @@ use Rattle.rules.proofs.Steps.{goes-other}
 use Rattle.rules.proofs.Accepted.{Below, below}
 use Rattle.rules.proofs.Plays.{by-after, by-turn, continued, whole-snoc}
 use Rattle.laws.specs.Laws.{Prefix, of, Without, InLine, spins}
-use Rattle.laws.proofs.Lists.{Mem, below-snoc}
+use Rattle.laws.proofs.Lists.{Mem, below-append}
 
 -- ---- what a step of processor i may do with the line, and what it says then
 
@@ -93,7 +93,7 @@ move-holder frees h = nobody
 -- the line is of processors below p
 move-below : {i : ℕ} {q g q′ g′ : List ℕ} {k : Says} (p : ℕ) → i < p → Moves i q g q′ g′ k → Below p q → Below p q′
 move-below p l rests b = b
-move-below {i} {q} p l joins b = below-snoc p i q l b
+move-below {i} {q} p l joins b = below-append p q (i ∷ []) b (l, tt)
 move-below p l enters b = (l, tt)
 move-below p l gets b = b
 move-below p l frees b = b .1

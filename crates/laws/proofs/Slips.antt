@@ -9,7 +9,7 @@ use lib.Dec.{eqb, leb}
 use lib.ListN.{length, length-append, take}
 use Rattle.rules.specs.Memory.{upd}
 use Rattle.rules.specs.Settings.{Settings, entry}
-use Rattle.rules.specs.Step.{remote, grant, Event, event, Machine}
+use Rattle.rules.specs.Step.{remote, grant, arrive, leave, Event, event, Machine}
 use Rattle.rules.specs.Course.{Turn, turn}
 use Rattle.rules.specs.Play.{next, taking, within, after, play, whole}
 use Rattle.rules.specs.Calls.{allBelow}
@@ -17,8 +17,7 @@ use Rattle.rules.specs.Ticket as ticket
 use Rattle.rules.specs.Mcs as mcs
 use Rattle.rules.specs.Central as central
 use Rattle.rules.specs.Dissem as dissem
-use Rattle.rules.proofs.Store.{either}
-use Rattle.laws.specs.Laws.{times, InLine, waits, AllDone, PassedOver, OutOfOrder, Early, Freezes, Slips}
+use Rattle.laws.specs.Laws.{of, times, InLine, waits, AllDone, PassedOver, OutOfOrder, Early, Freezes, Slips}
 use Rattle.laws.specs.Slips.{Slip, notCleared, linkedFirst, forgotten, lessThan, oneParity, toggled, untoggled, resetLate, slip1, slip2, slip3, slip4, slip5a, slip5b, slip6}
 use Rattle.laws.proofs.Waiting.{lasts}
 use Rattle.laws.proofs.Steadiness.{Calm, goes-on, stays, calm-or, AllCalm, steady, ticket-calm, mcs-calm, central-calm, dissem-calm, altered-calm, exchanged-calm}
@@ -40,13 +39,21 @@ no-grant es f e = omega (arith, ap length e, length-append es (event grant f ∷
 
 -- ---- two boards
 
-module _ (w : Slip) (two : w .settings .procs ≡ 2) where
-  -- what holds of 0 and 1 holds of both
-  both-boards : (P : ℕ → Type 0) → P 0 → P 1 → (i : ℕ) → i < w .settings .procs → P i
-  both-boards P a b zero l = a
-  both-boards P a b (suc zero) l = b
-  both-boards P a b (suc (suc i)) l = absurd (omega arith)
+-- what holds of 0 and 1 holds of both
+both-boards : (P : ℕ → Type 0) → P 0 → P 1 → (i : ℕ) → i < 2 → P i
+both-boards P a b zero l = a
+both-boards P a b (suc zero) l = b
+both-boards P a b (suc (suc i)) l = absurd (omega arith)
 
+-- neither has left more often than the other, or itself, has arrived
+not-early : (es : List Event) → times 0 (of leave es) ≤ times 0 (of arrive es) → times 0 (of leave es) ≤ times 1 (of arrive es)
+    → times 1 (of leave es) ≤ times 0 (of arrive es) → times 1 (of leave es) ≤ times 1 (of arrive es) → ¬ (Early 2 es)
+not-early es a b c d e =
+    let h = both-boards (λ i. (j : ℕ) → j < 2 → times i (of leave es) ≤ times j (of arrive es))
+    (both-boards (λ j. times 0 (of leave es) ≤ times j (of arrive es)) a b) (both-boards (λ j. times 1 (of leave es) ≤ times j (of arrive es)) c d) in
+    omega (arith, e .before, h (e .left) (e .two-of-them .0) (e .missing) (e .two-of-them .1))
+
+module _ (w : Slip) (two : w .settings .procs ≡ 2) where
   abbrev wrong : ℕ → Turn (w .wrong .State)
   wrong i = next (w .wrong) (w .settings) (whole (w .wrong) (w .settings) (w .order)) i
 
@@ -61,9 +68,9 @@ module _ (w : Slip) (two : w .settings .procs ≡ 2) where
       who = who;
       one-of-them = omega arith;
       passages-left = h;
-      all-wait = both-boards (λ i. waits (wrong i) ≡ true) a b;
+      all-wait = λ i l. both-boards (λ i. waits (wrong i) ≡ true) a b i (rw two at l);
     });
-    right = both-boards right c d;
+    right = λ i l. both-boards right c d i (rw two at l);
   }
 
 -- ---- the queue lock
@@ -125,37 +132,30 @@ calm5 toggle = altered-calm dissem.machine 2 _
 calm6 : AllCalm resetLate
 calm6 = exchanged-calm central.machine 2 3 _ _ (λ s x i. goes-on refl) (λ s x i. goes-on refl) central-calm
 
-slip-5a : Freezes slip5a
+slip-5a : (¬ (Early 2 (whole toggled (slip5a .settings) (slip5a .order) .events))) × Freezes slip5a
 unfolding whole play after within taking turn remote upd dissem.step dissem.doublings dissem.doubled
-slip-5a = freezes slip5a refl (calm5 (λ v. 1 - v)) 0 (omega arith) (omega arith) refl refl refl refl
+slip-5a = (
+  not-early _ (omega arith) (omega arith) (omega arith) (omega arith),
+  freezes slip5a refl (calm5 (λ v. 1 - v)) 0 (omega arith) (omega arith) refl refl refl refl,
+)
 
-slip-6 : Freezes slip6
-unfolding whole play after within taking turn remote upd central.step
-slip-6 = freezes slip6 refl calm6 0 (omega arith) (omega arith) refl refl refl refl
-
--- 0 has left twice, 1 has arrived once
-early : Early 2 (whole untoggled (slip5b .settings) (slip5b .order) .events)
-unfolding whole play after within taking turn remote upd dissem.step dissem.doublings dissem.doubled
-early = record { left = 0; missing = 1; one-of-them = omega arith; before = omega arith }
-
--- with the right barrier 0 has left once, and both have arrived
-not-early : ¬ (Early 2 (whole dissem.machine (slip5b .settings) (slip5b .order) .events))
-unfolding whole play after within taking turn remote upd dissem.step dissem.doublings dissem.doubled
-not-early e = go (e .missing) (e .one-of-them) (e .before)
-  where
-    once : times (e .left) (0 ∷ []) ≤ 1
-    once = either (λ n. n + 0 ≤ 1) (eqb 0 (e .left)) 1 0 (omega arith) (omega arith)
-
-    go : (j : ℕ) → j < 2 → times j (0 ∷ 1 ∷ 0 ∷ []) < times (e .left) (0 ∷ []) → ⊥
-    go zero l h = omega (arith, once)
-    go (suc zero) l h = omega (arith, once)
-    go (suc (suc j)) l h = omega arith
-
+-- 0 has left twice, 1 has arrived once; with the right barrier 0 has left once
 slip-5b : Early 2 (whole untoggled (slip5b .settings) (slip5b .order) .events)
     × (¬ (Early 2 (whole dissem.machine (slip5b .settings) (slip5b .order) .events)))
     × AllDone (slip5b .settings) (whole dissem.machine (slip5b .settings) (slip5b .order ++ slip5b .rest))
 unfolding whole play after within taking turn remote upd dissem.step dissem.doublings dissem.doubled
-slip-5b = (early, not-early, both-boards slip5b refl (right slip5b refl) refl refl)
+slip-5b = (
+  record { left = 0; missing = 1; two-of-them = (omega arith, omega arith); before = omega arith },
+  not-early _ (omega arith) (omega arith) (omega arith) (omega arith),
+  both-boards (right slip5b refl) refl refl,
+)
+
+slip-6 : (¬ (Early 2 (whole resetLate (slip6 .settings) (slip6 .order) .events))) × Freezes slip6
+unfolding whole play after within taking turn remote upd central.step
+slip-6 = (
+  not-early _ (omega arith) (omega arith) (omega arith) (omega arith),
+  freezes slip6 refl calm6 0 (omega arith) (omega arith) refl refl refl refl,
+)
 
 pub slips : Slips
 slips = record {
@@ -165,7 +165,7 @@ slips = record {
   two = slip-2;
   three = slip-3;
   four = slip-4;
-  five = slip-5a;
+  five-a = slip-5a;
   six = slip-6;
   five-b = slip-5b;
 }

@@ -24,7 +24,7 @@ use Rattle.rules.specs.File.{decimal, text}
 use Rattle.rules.specs.Calls as calls
 use Rattle.rules.specs.Calls.{allBelow, refusal, Record, Reading, refusedRead, reading, Writing, writing, acceptedRun, running}
 use Rattle.rules.specs.Cases.{All, cases, requested}
-use Rattle.laws.specs.Slips.{Slip, notCleared, linkedFirst, forgotten, lessThan, untoggled, slip1, slip2, slip3, slip4, slip5a, slip5b, slip6}
+use Rattle.laws.specs.Slips.{Slip, notCleared, linkedFirst, forgotten, lessThan, toggled, untoggled, resetLate, slip1, slip2, slip3, slip4, slip5a, slip5b, slip6}
 
 -- ---- words
 
@@ -169,9 +169,15 @@ pub data Sweeps (procs : ℕ) : ℕ → List ℕ → Type 0 where
   more : {n : ℕ} {t u : List ℕ} → Sweep procs t → Sweeps procs n u → Sweeps procs (suc n) (t ++ u)
 
 -- a passage makes at most so many steps that are no spins
+abbrev pub ticketSteps : ℕ
+ticketSteps = 4
+
+abbrev pub queueSteps : ℕ
+queueSteps = 9
+
 abbrev pub mostSteps : {m : Machine} {s : Settings} {t : List ℕ} → LockRun m s t → ℕ
-mostSteps (ticket-run small first below) = 4
-mostSteps (queue-run below) = 9
+mostSteps (ticket-run small first below) = ticketSteps
+mostSteps (queue-run below) = queueSteps
 
 -- sweeps that suffice: one for each step that is no spin, and for each hold turn
 abbrev pub enough : (steps : ℕ) → Settings → ℕ
@@ -197,7 +203,7 @@ OutOfOrder es = ¬ (Prefix (of grant es) (of join es))
 pub record Early (procs : ℕ) (es : List Event) : Type 0 where
   pub left : ℕ
   pub missing : ℕ
-  pub one-of-them : missing < procs
+  pub two-of-them : (left < procs) × (missing < procs)
   pub before : times missing (of arrive es) < times left (of leave es)
 
 -- the order freezes the wrong machine; with it, and the rest, the right one has done all passages
@@ -330,6 +336,9 @@ abbrev pub nineAccesses : List (ℕ × Access)
 nineAccesses =
     (0, atomics 0 0) ∷ (1, atomics 0 0) ∷ (1, reads 0 1) ∷ (0, reads 0 1) ∷ (0, reads 0 1) ∷ (0, writes 0 1) ∷ (1, reads 0 1) ∷ (1, reads 0 1) ∷ (1, writes 0 1) ∷ []
 
+abbrev pub oneBoard : Settings
+oneBoard = record { algo = 1; procs = 1; home = 0; ticket = 0; budget = 16384; rounds = 1 ∷ []; hold = 2 ∷ [] }
+
 -- what processor i pays for a passage of the tree barrier: it tells its parent, if it has one, and wakes its children below procs
 abbrev pub treePrice : (procs i : ℕ) → ℕ
 treePrice procs i = pick (eqb i 0) 0 1 + pick (ltb (2 * i + 1) procs) 1 0 + pick (ltb (2 * i + 2) procs) 1 0
@@ -415,6 +424,9 @@ pub record Going : Type 1 where
   -- and it never stops the queue lock where it has four references for each of all passages
   pub never-stopped : (s : Settings) (t : List ℕ) → allBelow (s .procs) t ≡ true → mostReferences * sum (entry (s .rounds)) (s .procs) ≤ s .budget
       → whole mcs.machine s t .stopped ≡ false
+  -- with which the queue lock finishes, however many wait and however long
+  pub queue-finishes : (s : Settings) (t u : List ℕ) → allBelow (s .procs) t ≡ true → mostReferences * sum (entry (s .rounds)) (s .procs) ≤ s .budget
+      → Sweeps (s .procs) (enough queueSteps s) u → AllDone s (whole mcs.machine s (t ++ u))
   -- the runs of accepted files that name a lock are lock runs
   pub lock-runs : (bytes schedule : List ℕ)
       → (let r : Reading = reading bytes schedule in
@@ -431,10 +443,10 @@ pub record Slips : Type 1 where
   pub two : PassedOver linkedFirst (slip2 .settings) (take 7 (slip2 .order)) × Freezes slip2
   pub three : PassedOver forgotten (slip3 .settings) (take 6 (slip3 .order)) × Freezes slip3
   pub four : OutOfOrder (whole lessThan (slip4 .settings) (take 3 (slip4 .order)) .events) × Freezes slip4
-  -- 5 in its first form, and 6, only freeze: nobody leaves early
-  pub five : Freezes slip5a
-  pub six : Freezes slip6
-  -- 5 in its second form
+  -- 5 in its first form, and 6, freeze though nobody has left early
+  pub five-a : (¬ (Early 2 (whole toggled (slip5a .settings) (slip5a .order) .events))) × Freezes slip5a
+  pub six : (¬ (Early 2 (whole resetLate (slip6 .settings) (slip6 .order) .events))) × Freezes slip6
+  -- 5 in its second form: somebody leaves early; with the right barrier nobody does, and all passages can be done
   pub five-b : Early 2 (whole untoggled (slip5b .settings) (slip5b .order) .events)
       × (¬ (Early 2 (whole dissem.machine (slip5b .settings) (slip5b .order) .events)))
       × AllDone (slip5b .settings) (whole dissem.machine (slip5b .settings) (slip5b .order ++ slip5b .rest))
@@ -497,6 +509,8 @@ pub record Reached : Type 0 where
   pub four : whole mcs.machine threeBoards fourTurns .tally .most 2 ≡ mostReferences
   -- an episode of the tree barrier: all seven have done their one passage, for 2 * 7 - 2 remote references in all
   pub episode : (let r : Run tree.State = whole tree.machine sevenBoards sevenTurns in (sum (r .course .done) 7 ≡ 7) × (r .tally .total ≡ 12))
+  -- one sweep fewer than enough does not finish: one board with the ticket lock, one passage, two hold turns
+  pub sweeps : (enough ticketSteps oneBoard ≡ 6) × Sweeps 1 5 (replicate 5 0) × (whole ticket.machine oneBoard (replicate 5 0) .course .done 0 ≡ 0)
   pub longest : (bytes : List ℕ) × (length bytes ≡ longestFile) × (reading bytes (replicate mostTurns 0) .answer .number ≡ 0)
   -- the last byte that read goes by
   pub last-byte : (bytes : List ℕ) × (length (bytes ++ feed ∷ []) ≡ farthest)
