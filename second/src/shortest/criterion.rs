@@ -76,8 +76,8 @@ fn frozen<R: Routine>(settings: &Settings, state: &State<R>, shared: &R::Shared)
     let rounds = settings.plans.iter().map(|plan| u32::from(plan.rounds));
     let least = rounds.clone().min().unwrap_or(0);
     let at_barrier = Criterion::of(settings.algorithm).contains(&Criterion::Early);
-    let mut due = rounds.map(|rounds| if at_barrier { least } else { rounds });
-    let left = state.notes.tallies.iter().any(|tally| due.next() > Some(tally.done));
+    let due = rounds.map(|rounds| if at_barrier { least } else { rounds });
+    let left = state.notes.tallies.iter().zip(due).any(|(tally, due)| tally.done < due);
     left && (0..settings.procs).all(|processor| state.waits(processor, shared))
 }
 
