@@ -117,6 +117,7 @@ impl<const SLIP: Slip> Routine for Central<SLIP> {
         routine
     }
 
+    #[inline(always)]
     fn touches(&self, barrier: &Barrier) -> Option<Address> {
         match self.point {
             Point::CountDown | Point::ResetCount => Some(barrier.count),

@@ -168,6 +168,7 @@ impl<const SLIP: Slip> Routine for Dissem<SLIP> {
         routine
     }
 
+    #[inline(always)]
     fn touches(&self, nodes: &Nodes) -> Option<Address> {
         match self.point {
             Point::SignalPartner { k } => Some(nodes.partner_flag(self.me, self.parity, k)),

@@ -12,7 +12,6 @@ pub mod reader;
 pub mod routine;
 pub mod settings;
 pub mod slip;
-pub mod state;
 pub mod ticket;
 pub mod trace;
 pub mod tree;

@@ -53,9 +53,7 @@ fn main() -> io::Result<ExitCode> {
         Err(refusal) => Some(print::refusal_lines(&refusal)),
     };
     let Some(lines) = lines else {
-        for (name, _, algorithm) in slip::NAMED.iter().filter(|named| named.1 == options.slip) {
-            eprintln!("second: slip {name} is one of the machine {}", algorithm.name());
-        }
+        eprintln!("second: {}", slip::of_another_machine(options.slip));
         return Ok(ExitCode::from(2));
     };
     io::stdout().lock().write_all(&lines)?;

@@ -164,6 +164,7 @@ impl<const SLIP: Slip> Routine for Mcs<SLIP> {
         routine
     }
 
+    #[inline(always)]
     fn touches(&self, lock: &Lock) -> Option<Address> {
         let mine = &lock.qnodes[self.me];
         match self.point {

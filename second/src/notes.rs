@@ -1,7 +1,7 @@
 //! What the processors' routines note down as they go: events, passages done,
 //! spins and idle turns.
 
-#[derive(Clone, Copy, Debug, PartialEq, Eq)]
+#[derive(Clone, Copy, Debug, PartialEq, Eq, PartialOrd, Ord, Hash)]
 pub enum Kind {
     Join,
     Grant,
@@ -10,7 +10,7 @@ pub enum Kind {
     Leave,
 }
 
-#[derive(Clone, Copy, Debug, PartialEq, Eq)]
+#[derive(Clone, Copy, Debug, PartialEq, Eq, Hash)]
 pub struct Event {
     pub kind: Kind,
     pub processor: u8,

@@ -4,10 +4,9 @@
 use crate::machine::{hand_over, Task};
 use crate::memory::Memory;
 use crate::notes::{Event, Journal};
-use crate::routine::Routine;
+use crate::routine::{start, Routine};
 use crate::settings::{Accepted, Settings};
 use crate::slip::Slip;
-use crate::state::State;
 
 #[derive(Clone, Copy, Debug, PartialEq, Eq)]
 pub enum Stop {
@@ -49,18 +48,20 @@ pub fn play(file: &Accepted, slip: Slip) -> Option<Outcome> {
 }
 
 fn run<R: Routine>(settings: &Settings, schedule: &[u8]) -> Outcome {
-    let notes = Journal::new(settings.procs, schedule.len());
-    let (shared, mut state) = State::<R, Journal>::start(settings, notes);
+    let (shared, mut memory, mut routines) = start::<R>(settings);
+    let mut notes = Journal::new(settings.procs, schedule.len());
+
     let mut turns = 0;
     let mut stop = Stop::ScheduleUsedUp;
-    for &processor in schedule {
-        if !state.turn(usize::from(processor), &shared, settings.budget) {
+    for processor in schedule.iter().map(|&processor| usize::from(processor)) {
+        let routine = &mut routines[processor];
+        if !routine.turn_within(settings.budget, processor, &shared, &mut memory, &mut notes) {
             stop = Stop::Budget;
             break;
         }
         turns += 1;
     }
-    outcome(turns, stop, state.memory, state.notes)
+    outcome(turns, stop, memory, notes)
 }
 
 fn outcome(turns: usize, stop: Stop, memory: Memory, notes: Journal) -> Outcome {

@@ -32,3 +32,14 @@ pub const NAMED: [(&str, Slip, Algorithm); 7] = [
     ("5b", ONE_PARITY_ONE_SENSE, Algorithm::Dissem),
     ("6", RESET_AFTER_SENSE, Algorithm::Central),
 ];
+
+/// What is said when a file names another machine than the slip's.
+pub fn of_another_machine(slip: Slip) -> String {
+    NAMED
+        .iter()
+        .filter(|named| named.1 == slip)
+        .map(|(name, _, algorithm)| {
+            format!("slip {name} is one of the machine {}", algorithm.name())
+        })
+        .collect()
+}

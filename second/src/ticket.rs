@@ -99,6 +99,7 @@ impl<const SLIP: Slip> Routine for Ticket<SLIP> {
         routine
     }
 
+    #[inline(always)]
     fn touches(&self, lock: &Lock) -> Option<Address> {
         match self.point {
             Point::TakeTicket => Some(lock.next_ticket),

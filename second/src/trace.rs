@@ -4,10 +4,9 @@
 use crate::machine::{hand_over, Task};
 use crate::notes::{Kind, Notes};
 use crate::print::put_number;
-use crate::routine::{Routine, Step};
+use crate::routine::{start, Routine, Step};
 use crate::settings::{Accepted, Settings};
 use crate::slip::Slip;
-use crate::state::State;
 
 struct Trace<'a>(&'a Accepted);
 
@@ -46,14 +45,14 @@ impl Notes for Noted {
 }
 
 fn lines<R: Routine>(settings: &Settings, schedule: &[u8]) -> Vec<u8> {
-    let (shared, mut state) = State::<R, Noted>::start(settings, Noted::default());
+    let (shared, mut memory, mut routines) = start::<R>(settings);
     let mut out = Vec::new();
     for (place, &processor) in schedule.iter().enumerate() {
         let processor = usize::from(processor);
-        let step = state.routines[processor].step();
-        let total = state.memory.total();
-        state.notes = Noted::default();
-        if !state.turn(processor, &shared, settings.budget) {
+        let routine = &mut routines[processor];
+        let (step, total) = (routine.step(), memory.total());
+        let mut noted = Noted::default();
+        if !routine.turn_within(settings.budget, processor, &shared, &mut memory, &mut noted) {
             out.extend_from_slice(b"stopped\n");
             break;
         }
@@ -61,9 +60,9 @@ fn lines<R: Routine>(settings: &Settings, schedule: &[u8]) -> Vec<u8> {
         out.push(b' ');
         put_number(&mut out, processor);
         out.push(b' ');
-        out.extend_from_slice(words(step, &state.notes).as_bytes());
+        out.extend_from_slice(words(step, &noted).as_bytes());
         out.push(b' ');
-        put_number(&mut out, (state.memory.total() - total) as usize);
+        put_number(&mut out, (memory.total() - total) as usize);
         out.push(b'\n');
     }
     out

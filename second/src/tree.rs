@@ -204,6 +204,7 @@ impl Routine for Tree {
         routine
     }
 
+    #[inline(always)]
     fn touches(&self, nodes: &Nodes) -> Option<Address> {
         let mine = &nodes.nodes[self.me];
         match self.point {
