@@ -29,10 +29,15 @@ module _ (m : Machine) (s : Settings) (k : Lock m s) (r : Run (m .State)) where
   goer w i b h = go (w .q) (w .line .below) (w .line .inv)
     where
       go : (q : List ℕ) → Below (s .procs) q → k .Inv (r .memory) (r .course .at) q (w .g) → Goer
-      go [] c v = (i, b,
+      go [] c v = (
+        i,
+        b,
         by-turn m s (r .memory) (r .course) i (λ t. waits t ≡ false) (λ p. refl) (λ e d. absurd (omega arith))
-        (λ z. k .out-goes (r .memory) (r .course .at) i [] (w .g) v tt))
+            (λ z. k .out-goes (r .memory) (r .course .at) i [] (w .g) v tt),
+      )
       go (a ∷ q) c v =
-          let n = k .line-goes (r .memory) (r .course .at) a q (w .g) v in
-          (n .who, mem-below (s .procs) (n .who) (a ∷ q) c (n .in-line),
-            by-turn m s (r .memory) (r .course) (n .who) (λ t. waits t ≡ false) (λ p. refl) (λ e d. absurd (n .inside e)) (λ z. n .goes))
+          let n = k .line-goes (r .memory) (r .course .at) a q (w .g) v in (
+            n .who,
+            mem-below (s .procs) (n .who) (a ∷ q) c (n .in-line),
+            by-turn m s (r .memory) (r .course) (n .who) (λ t. waits t ≡ false) (λ p. refl) (λ e d. absurd (n .inside e)) (λ z. n .goes),
+          )
