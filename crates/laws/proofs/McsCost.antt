@@ -125,4 +125,6 @@ four-reached = refl
 pub four-suffice : (s : Settings) (t : List ℕ) → allBelow (s .procs) t ≡ true → mostReferences * sum (entry (s .rounds)) (s .procs) ≤ s .budget
     → whole machine s t .stopped ≡ false
 unfolding mcs-cost
-four-suffice s t b h = never-stopped machine s (mcs-cost s) (λ x i c h k. inside s x i h c k) (rw (sum-times _ (entry (s .rounds)) mostReferences (s .procs) (λ i l. mul-comm (entry (s .rounds) i) mostReferences)) h) t b
+four-suffice s t b h =
+    let all = sum-times (λ i. entry (s .rounds) i * mostReferences) (entry (s .rounds)) mostReferences (s .procs) (λ i l. mul-comm (entry (s .rounds) i) mostReferences) in
+    never-stopped machine s (mcs-cost s) (λ x i c h k. inside s x i h c k) (omega (arith, all, h)) t b

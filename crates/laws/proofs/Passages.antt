@@ -9,6 +9,7 @@ use Rattle.rules.specs.Settings.{Settings}
 use Rattle.rules.specs.Step.{Step}
 use Rattle.rules.specs.Ticket as ticket
 use Rattle.rules.specs.Mcs as mcs
+use Rattle.laws.specs.Laws.{ticketSteps, queueSteps}
 use Rattle.laws.proofs.Finishing.{Ahead, Nearer, stays, goes-to, ends-it, Passage}
 
 near-or : {S : Type 0} {ahead : Ahead} {h : ℕ} (b : Bool) {t u : Step S} {v w : ℕ} → Nearer ahead h t v → Nearer ahead h u w → Nearer ahead h (pick b t u) (pick b v w)
@@ -30,7 +31,7 @@ ticket-nearer s x k i h =
     wait true = goes-to 3 refl (omega arith)
     wait false = stays refl refl
 
-pub ticket-passage : (s : Settings) → Passage ticket.machine s 4
+pub ticket-passage : (s : Settings) → Passage ticket.machine s ticketSteps
 ticket-passage s = record { ahead = ticketAhead; first = λ h. omega arith; nearer = ticket-nearer s }
 
 -- ---- mcs: 1 to 5, hold turns, 7 to 10
@@ -68,5 +69,5 @@ mcs-nearer s x k i h =
     reread zero = stays refl refl
     reread (suc n) = goes-to 10 refl (omega arith)
 
-pub mcs-passage : (s : Settings) → Passage mcs.machine s 9
+pub mcs-passage : (s : Settings) → Passage mcs.machine s queueSteps
 mcs-passage s = record { ahead = mcsAhead; first = λ h. omega arith; nearer = mcs-nearer s }
