@@ -1,28 +1,23 @@
 -- A budget that never stops a run: what a passage costs at most, for all passages.
 use mathlib.Core.Path.{_≡_, refl, sym, subst}
-use mathlib.Core.Logic.{_≢_, _⊎_, inl, inr}
-use mathlib.Core.Bool.{Bool, true, false}
+use mathlib.Core.Logic.{_≢_, inl, inr}
+use mathlib.Core.Bool.{true, false}
 use mathlib.Core.List.{List, [], _∷_}
-use Prim.Native.Nat.{ℕ, zero, suc, _+_, _*_, _≤_, _<_}
-use native.Mathlib.Nat.{add-mul, one-mul, mul-comm, mul-le-mul-right}
+use Prim.Native.Nat.{ℕ, _+_, _*_, _≤_, _<_}
+use native.Mathlib.Nat.{add-mul, one-mul, mul-le-mul-right}
 use native.Mathlib.Omega.{arith}
-use borrow.Author.Tests.{eq-eqb, ne-eqb}
-use lib.Dec.{eqb}
-use Rattle.rules.specs.Memory.{pick}
 use Rattle.rules.specs.Settings.{Settings, entry}
 use Rattle.rules.specs.Step.{remote, Next, stay, again, to, over, Step, Machine}
-use Rattle.rules.specs.Course.{Course}
 use Rattle.rules.specs.Tally.{begun}
-use Rattle.rules.specs.Play.{Run, first, next, taking, after, play, whole}
+use Rattle.rules.specs.Play.{Run, first, next, taking, play, whole}
 use Rattle.rules.specs.Calls.{allBelow}
-use Rattle.rules.proofs.Store.{either}
 use Rattle.rules.proofs.Steps.{place}
 use Rattle.rules.proofs.Accepted.{Below, below}
 use Rattle.rules.proofs.Plays.{after-takes}
 use Rattle.laws.specs.Laws.{sum}
 use Rattle.laws.proofs.Totals.{sum-least, sum-zero, summed}
 use Rattle.laws.proofs.Courses.{AllDue, Due, due-turn}
-use Rattle.laws.proofs.Costs.{Account, under-way, begun≤, stepped, after-step, account, Of, by-taking, Cost, Capped, capped-start, capped-step, capped-others}
+use Rattle.laws.proofs.Costs.{Account, under-way, begun≤, stepped, after-step, Of, by-taking, Cost, Capped, capped-start, capped-step, capped-others}
 
 -- a step made at k leads to step 1 only where it ends the passage
 abbrev pub Inside : Next → ℕ → Type 0

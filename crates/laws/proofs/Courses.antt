@@ -8,7 +8,7 @@ use native.Mathlib.Decide.{ℕ-discrete}
 use native.Mathlib.Omega.{arith}
 use borrow.Author.Tests.{eq-eqb, ne-eqb, lt-ltb, le-ltb, eqb-false}
 use lib.Dec.{eqb, ltb}
-use Rattle.rules.specs.Memory.{pick, upd}
+use Rattle.rules.specs.Memory.{pick}
 use Rattle.rules.specs.Settings.{Settings, entry}
 use Rattle.rules.specs.Step.{Kind, join, grant, release, arrive, leave, Says, nothing, one, two, said, Next, stay, again, to, over, Machine}
 use Rattle.rules.specs.Course.{Course, Turn, holds, idles, makes, turn, begins, holding, goes, ends, says, course}

@@ -1,31 +1,29 @@
 -- Sweeps finish all passages of a lock: each has a turn that is neither a spin nor idle, and of these there are only so many.
-use mathlib.Core.Path.{_≡_, refl, sym, ap, _∙_}
-use mathlib.Core.Logic.{_≢_, _⊎_, inl, inr}
+use mathlib.Core.Path.{_≡_, refl, sym, _∙_}
+use mathlib.Core.Logic.{_≢_, inl, inr}
 use mathlib.Core.Bool.{Bool, true, false}
 use mathlib.Core.List.{List, [], _∷_, _++_}
 use Prim.Native.Nat.{ℕ, zero, suc, _+_, _-_, _*_, _≤_, _<_}
 use native.Mathlib.Nat.{add-mul, one-mul, mul-le-mul-right}
 use native.Mathlib.Decide.{ℕ-discrete, decLt}
 use native.Mathlib.Omega.{arith}
-use borrow.Author.Tests.{eq-eqb, ne-eqb}
-use lib.Dec.{eqb}
+use borrow.Author.Tests.{ne-eqb}
 use Rattle.rules.specs.Memory.{pick}
 use Rattle.rules.specs.Settings.{Settings, entry}
-use Rattle.rules.specs.Step.{Next, stay, again, to, over, Step, Machine}
-use Rattle.rules.specs.Course.{Course, Turn, holds, idles, makes, turn, holding, goes, ends, course}
+use Rattle.rules.specs.Step.{stay, to, over, Step, Machine}
+use Rattle.rules.specs.Course.{Course, Turn, holds, makes, turn, holding, course}
 use Rattle.rules.specs.Play.{Run, first, next, taking, after, play, whole}
 use Rattle.rules.specs.Calls.{allBelow}
 use Rattle.rules.proofs.Store.{upd-same, false-true}
-use Rattle.rules.proofs.Steps.{place, goes-same, passed, ends-same}
 use Rattle.rules.proofs.Accepted.{Below, below}
-use Rattle.rules.proofs.Plays.{by-after, by-turn, by-whole, by-play, play-append, goes-on, after-taken, continued}
-use Rattle.laws.specs.Laws.{times, sum, waits, AllDone, Sweep, Sweeps, none, more, enough, Steady}
+use Rattle.rules.proofs.Plays.{by-after, by-turn, play-append, goes-on, after-taken, continued}
+use Rattle.laws.specs.Laws.{times, sum, waits, AllDone, Sweeps, none, more, enough, Steady}
 use Rattle.laws.proofs.Lists.{below-append}
 use Rattle.laws.proofs.Beginnings.{begins-play}
-use Rattle.laws.proofs.Totals.{sum-least, sum-less}
+use Rattle.laws.proofs.Totals.{sum-less}
 use Rattle.laws.proofs.Courses.{Due, all-due}
 use Rattle.laws.proofs.Locks.{Lock, Good, good, good-on}
-use Rattle.laws.proofs.Waiting.{Unmoved, unmoved, Alike, alike-other}
+use Rattle.laws.proofs.Waiting.{unmoved, alike-other}
 use Rattle.laws.proofs.Unstuck.{goer}
 
 -- ---- how far a passage is
@@ -62,7 +60,7 @@ work-over d w b p l = omega (arith, add-mul d 1 w, one-mul w)
 
 -- d passages of n are done: not all work is
 work-due : (d n w b : ℕ) → 0 < b → b ≤ w → d < n → work d w b + 1 ≤ n * w
-work-due d n w b p l h = omega (arith, work-over d w b p l, mul-le-mul-right w (h))
+work-due d n w b p l h = omega (arith, work-over d w b p l, mul-le-mul-right w h)
 
 module _ (m : Machine) (s : Settings) (steps : ℕ) (p : Passage m s steps) where
   abbrev hold : ℕ → ℕ
@@ -154,7 +152,7 @@ module _ (m : Machine) (s : Settings) (steps : ℕ) (p : Passage m s steps) wher
       (u .0, omega (arith, w .1, u .1))
 
   -- at first nothing is done, and all of the first passage is to come
-  pub fit : (t : List ℕ) → allBelow (s .procs) t ≡ true → Fit (whole m s t)
+  fit : (t : List ℕ) → allBelow (s .procs) t ≡ true → Fit (whole m s t)
   unfolding whole
   fit t b = kept t (first m s) (below (s .procs) t b) (λ j. omega (arith, p .first (hold j))) .0
 

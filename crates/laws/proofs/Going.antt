@@ -25,6 +25,7 @@ use Rattle.laws.proofs.Steadiness.{steady, ticket-calm, mcs-calm, machi
 use Rattle.laws.proofs.Unstuck.{goer}
 use Rattle.laws.proofs.Finishing.{sweeps-below, finish}
 use Rattle.laws.proofs.Passages.{ticket-passage, mcs-passage}
+use Rattle.laws.proofs.Lines.{lock-run-accepted}
 use Rattle.laws.proofs.Files.{lock-run-file}
 
 unstuck : (m : Machine) (s : Settings) (t : List ℕ) → LockRun m s t → (i : ℕ) → i < s .procs → whole m s t .course .done i < entry (s .rounds) i
@@ -65,5 +66,6 @@ going = record {
   finishes = finishes;
   never-stopped = four-suffice;
   queue-finishes = queue-finishes;
-  lock-runs = lock-run-file;
+  of-calls = lock-run-accepted;
+  of-files = lock-run-file;
 }

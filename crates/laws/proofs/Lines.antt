@@ -55,9 +55,13 @@ lock-run s t a =
     no-lock : {m : Machine} → barrier ≡ lock → LockRun m s t
     no-lock e = let z : _≡_ {A = ℕ} 0 1 = cc in absurd (omega arith)
 
+pub lock-run-accepted : (s : Settings) (t u : List ℕ) (roomy : Bool) → refusal s (t ++ u) roomy ≡ 0 → numbered (s .algo) .sort ≡ lock
+    → LockRun (machine (s .algo)) s t
+lock-run-accepted s t u roomy e = lock-run s t (begun s t u (accepted s (t ++ u) roomy e .0))
+
 pub line-accepted : (s : Settings) (t u : List ℕ) (roomy : Bool) → refusal s (t ++ u) roomy ≡ 0 → numbered (s .algo) .sort ≡ lock
     → InLine (machine (s .algo)) s t
-line-accepted s t u roomy e l = line (machine (s .algo)) s t (lock-run s t (begun s t u (accepted s (t ++ u) roomy e .0)) l)
+line-accepted s t u roomy e l = line (machine (s .algo)) s t (lock-run-accepted s t u roomy e l)
 
 -- ---- the counters of the ticket lock
 

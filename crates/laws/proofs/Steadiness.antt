@@ -1,14 +1,14 @@
 -- In every machine, and in every slip, a spin changes no memory.
 use mathlib.Core.Path.{_≡_, refl, sym, ap, _∙_}
 use mathlib.Core.Logic.{_≢_}
-use mathlib.Core.Bool.{Bool, true, false, _&&_}
+use mathlib.Core.Bool.{Bool, true, false}
 use Prim.Native.Nat.{ℕ, zero, suc, _+_, _-_}
 use native.Mathlib.Omega.{arith}
 use borrow.Author.Tests.{ne-eqb, eqb-false}
 use lib.Dec.{eqb, ltb}
 use Rattle.rules.specs.Memory.{pick}
 use Rattle.rules.specs.Settings.{Settings}
-use Rattle.rules.specs.Step.{Access, nothing, one, arrive, Next, stay, again, to, over, Step, Machine}
+use Rattle.rules.specs.Step.{Access, nothing, one, arrive, stay, again, Step, Machine}
 use Rattle.rules.specs.Course.{holding}
 use Rattle.rules.specs.Ticket as ticket
 use Rattle.rules.specs.Mcs as mcs

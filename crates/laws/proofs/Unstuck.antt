@@ -12,7 +12,7 @@ use Rattle.rules.proofs.Accepted.{Below}
 use Rattle.rules.proofs.Plays.{by-turn}
 use Rattle.laws.specs.Laws.{waits}
 use Rattle.laws.proofs.Lists.{Mem}
-use Rattle.laws.proofs.Locks.{Lock, Goes, Good}
+use Rattle.laws.proofs.Locks.{Lock, Good}
 
 mem-below : (p i : ℕ) (q : List ℕ) → Below p q → Mem i q → i < p
 mem-below p i (a ∷ q) b (inl e) = rw e at (b .0)

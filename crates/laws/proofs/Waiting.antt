@@ -1,17 +1,15 @@
 -- A turn that is a spin or idle changes nothing; so a standstill lasts.
-use mathlib.Core.Path.{_≡_, refl, sym, ap, _∙_}
+use mathlib.Core.Path.{_≡_, refl, _∙_}
 use mathlib.Core.Logic.{_≢_}
-use mathlib.Core.Bool.{Bool, true, false}
-use mathlib.Core.List.{List, [], _∷_, _++_}
+use mathlib.Core.Bool.{true}
+use mathlib.Core.List.{List, [], _∷_}
 use Prim.Native.Nat.{ℕ, _<_}
 use native.Mathlib.Decide.{ℕ-discrete}
 use native.Mathlib.Omega.{arith}
-use Rattle.rules.specs.Memory.{pick, upd}
-use Rattle.rules.specs.Settings.{Settings, entry}
+use Rattle.rules.specs.Settings.{Settings}
 use Rattle.rules.specs.Step.{Next, stay, again, to, over, Step, Machine}
-use Rattle.rules.specs.Course.{Course, Turn, holds, idles, makes, turn, holding, goes, ends, memory, course}
-use Rattle.rules.specs.Play.{Run, next, taking, ended, after, play, whole}
-use Rattle.rules.specs.Calls.{allBelow}
+use Rattle.rules.specs.Course.{Course, Turn, holds, idles, makes, turn, goes, ends, memory, course}
+use Rattle.rules.specs.Play.{Run, next, taking, after, play, whole}
 use Rattle.rules.proofs.Store.{upd-same, upd-other, false-true}
 use Rattle.rules.proofs.Steps.{goes-other, ends-other}
 use Rattle.rules.proofs.Accepted.{Below, below}

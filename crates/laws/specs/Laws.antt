@@ -427,10 +427,11 @@ pub record Going : Type 1 where
   -- with which the queue lock finishes, however many wait and however long
   pub queue-finishes : (s : Settings) (t u : List ℕ) → allBelow (s .procs) t ≡ true → mostReferences * sum (entry (s .rounds)) (s .procs) ≤ s .budget
       → Sweeps (s .procs) (enough queueSteps s) u → AllDone s (whole mcs.machine s (t ++ u))
-  -- the runs of accepted files that name a lock are lock runs
-  pub lock-runs : (bytes schedule : List ℕ)
+  -- the runs over every beginning of an accepted call's schedule, and of an accepted file's, that name a lock are lock runs
+  pub of-calls : (s : Settings) (t u : List ℕ) (roomy : Bool) → refusal s (t ++ u) roomy ≡ 0 → NamesLock s → LockRun (machine (s .algo)) s t
+  pub of-files : (bytes schedule : List ℕ)
       → (let r : Reading = reading bytes schedule in
-      r .answer .number ≡ 0 → numbered (settingsOf r .algo) .sort ≡ lock
+      r .answer .number ≡ 0 → NamesLock (settingsOf r)
       → (t u : List ℕ) → t ++ u ≡ turnsOf r → LockRun (machine (settingsOf r .algo)) (settingsOf r) t)
 
 -- what a trial would have shown: document 01's slips, each by its order of turns
