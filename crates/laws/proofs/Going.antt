@@ -3,6 +3,7 @@ use mathlib.Core.Path.{_≡_, refl}
 use mathlib.Core.Bool.{true, false}
 use mathlib.Core.List.{List, [], _∷_, _++_}
 use Prim.Native.Nat.{ℕ, zero, suc, _*_, _≤_, _<_}
+use native.Mathlib.Nat.{mul-comm}
 use native.Mathlib.Omega.{arith}
 use lib.ListN.{replicate}
 use Rattle.rules.specs.Memory.{upd}
@@ -16,6 +17,7 @@ use Rattle.rules.specs.Mcs as mcs
 use Rattle.laws.specs.Laws.{sum, times, LockRun, ticket-run, queue-run, waits, AllDone, Sweep, Sweeps, none, more, ticketSteps, queueSteps, mostSteps, enough, mostReferences, oneBoard, Going}
 use Rattle.rules.proofs.Accepted.{below, all-below}
 use Rattle.laws.proofs.Lists.{below-append}
+use Rattle.laws.proofs.Totals.{sum-times}
 use Rattle.laws.proofs.Locks.{good}
 use Rattle.laws.proofs.TicketTurns as tickets
 use Rattle.laws.proofs.McsTurns.{queue}
@@ -40,11 +42,15 @@ finishes m s t u (ticket-run small first b) =
     finish ticket.machine s ticketSteps (ticket-passage s) (steady ticket.machine ticket-calm) (tickets.ticket s small first) t u b
 finishes m s t u (queue-run b) = finish mcs.machine s queueSteps (mcs-passage s) (steady mcs.machine mcs-calm) (queue s) t u b
 
+-- four for each passage
+priced : (s : Settings) → sum (λ i. entry (s .rounds) i * mostReferences) (s .procs) ≡ mostReferences * sum (entry (s .rounds)) (s .procs)
+priced s = sum-times _ (entry (s .rounds)) mostReferences (s .procs) (λ i l. mul-comm (entry (s .rounds) i) mostReferences)
+
 queue-finishes : (s : Settings) (t u : List ℕ) → allBelow (s .procs) t ≡ true → mostReferences * sum (entry (s .rounds)) (s .procs) ≤ s .budget
     → Sweeps (s .procs) (enough queueSteps s) u → AllDone s (whole mcs.machine s (t ++ u))
 queue-finishes s t u b h a =
     let all = all-below (s .procs) (t ++ u) (below-append (s .procs) t u (below (s .procs) t b) (sweeps-below a)) in
-    finishes mcs.machine s t u (queue-run b) a (four-suffice s (t ++ u) all h)
+    finishes mcs.machine s t u (queue-run b) a (four-suffice s (omega (arith, h, priced s)) (t ++ u) all)
 
 -- one board takes six turns for a passage of four steps and two hold turns
 pub sweeps-reached : (enough ticketSteps oneBoard ≡ 6) × Sweeps 1 5 (replicate 5 0) × (whole ticket.machine oneBoard (replicate 5 0) .course .done 0 ≡ 0)
@@ -64,7 +70,7 @@ going = record {
   steady = machine-steady;
   unstuck = unstuck;
   finishes = finishes;
-  never-stopped = four-suffice;
+  never-stopped = λ s t b h. four-suffice s (omega (arith, h, priced s)) t b;
   queue-finishes = queue-finishes;
   of-calls = lock-run-accepted;
   of-files = lock-run-file;

@@ -3,7 +3,6 @@ use mathlib.Core.Path.{_≡_, refl}
 use mathlib.Core.Bool.{Bool, true, false}
 use mathlib.Core.List.{List}
 use Prim.Native.Nat.{ℕ, zero, suc, _+_, _*_, _≤_}
-use native.Mathlib.Nat.{mul-comm}
 use native.Mathlib.Omega.{arith}
 use lib.Dec.{eqb}
 use Rattle.rules.specs.Memory.{upd, each}
@@ -17,7 +16,6 @@ use Rattle.rules.specs.Mcs.{State, swaps, waits, looks, drains, rereads, step, 
 use Rattle.rules.proofs.Steps.{place, remote≤, own}
 use Rattle.laws.specs.Laws.{sum, mostReferences, threeBoards, fourTurns}
 use Rattle.laws.proofs.Costs.{Cost, at-most}
-use Rattle.laws.proofs.Totals.{sum-times}
 use Rattle.laws.proofs.Budget.{Inside, never-stopped}
 
 -- how many references of its passage a processor may have made before each step
@@ -122,9 +120,7 @@ unfolding whole play after within taking turn remote upd step
 four-reached = refl
 
 -- a budget of four for each of all passages stops no run
-pub four-suffice : (s : Settings) (t : List ℕ) → allBelow (s .procs) t ≡ true → mostReferences * sum (entry (s .rounds)) (s .procs) ≤ s .budget
-    → whole machine s t .stopped ≡ false
+pub four-suffice : (s : Settings) → sum (λ i. entry (s .rounds) i * mostReferences) (s .procs) ≤ s .budget
+    → (t : List ℕ) → allBelow (s .procs) t ≡ true → whole machine s t .stopped ≡ false
 unfolding mcs-cost
-four-suffice s t b h =
-    let all = sum-times (λ i. entry (s .rounds) i * mostReferences) (entry (s .rounds)) mostReferences (s .procs) (λ i l. mul-comm (entry (s .rounds) i) mostReferences) in
-    never-stopped machine s (mcs-cost s) (λ x i c h k. inside s x i h c k) (omega (arith, all, h)) t b
+four-suffice s = never-stopped machine s (mcs-cost s) (λ x i c h k. inside s x i h c k)

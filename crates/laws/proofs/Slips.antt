@@ -1,15 +1,14 @@
 -- Each slip of document 01 is shown by its order of turns.
-use mathlib.Core.Path.{_≡_, refl, ap}
-use mathlib.Core.Logic.{_≢_}
+use mathlib.Core.Path.{_≡_, refl, sym, ap, _∙_}
 use mathlib.Core.Bool.{Bool, true, false, _&&_}
 use mathlib.Core.List.{List, [], _∷_, _++_, append-nil}
-use Prim.Native.Nat.{ℕ, zero, suc, _+_, _-_, _≤_, _<_}
+use Prim.Native.Nat.{ℕ, zero, suc, _+_, _≤_, _<_}
 use native.Mathlib.Omega.{arith}
 use lib.Dec.{eqb, leb}
-use lib.ListN.{length, length-append, take}
+use lib.ListN.{length, length-append}
 use Rattle.rules.specs.Memory.{upd}
 use Rattle.rules.specs.Settings.{Settings, entry}
-use Rattle.rules.specs.Step.{remote, grant, arrive, leave, Event, event, Machine}
+use Rattle.rules.specs.Step.{remote, join, grant, release, arrive, leave, Event, event, Machine}
 use Rattle.rules.specs.Course.{Turn, turn}
 use Rattle.rules.specs.Play.{next, taking, within, after, play, whole}
 use Rattle.rules.specs.Calls.{allBelow}
@@ -17,8 +16,8 @@ use Rattle.rules.specs.Ticket as ticket
 use Rattle.rules.specs.Mcs as mcs
 use Rattle.rules.specs.Central as central
 use Rattle.rules.specs.Dissem as dissem
-use Rattle.laws.specs.Laws.{of, times, InLine, waits, AllDone, PassedOver, OutOfOrder, Early, Freezes, Slips}
-use Rattle.laws.specs.Slips.{Slip, notCleared, linkedFirst, forgotten, lessThan, oneParity, toggled, untoggled, resetLate, slip1, slip2, slip3, slip4, slip5a, slip5b, slip6}
+use Rattle.laws.specs.Laws.{of, times, InLine, waits, PassedOver, OutOfOrder, Early, Freezes, Slips}
+use Rattle.laws.specs.Slips.{Slip, notCleared, linkedFirst, forgotten, lessThan, toggled, resetLate, slip1, slip2, slip3, slip4, slip5a, slip5b, slip6}
 use Rattle.laws.proofs.Waiting.{lasts}
 use Rattle.laws.proofs.Steadiness.{Calm, goes-on, stays, calm-or, AllCalm, steady, ticket-calm, mcs-calm, central-calm, dissem-calm, altered-calm, exchanged-calm}
 
@@ -32,10 +31,6 @@ passed-over m s t p l =
 
 out-of-order : (m : Machine) (s : Settings) (t : List ℕ) → OutOfOrder (whole m s t .events) → ¬ (InLine m s t)
 out-of-order m s t p l = p (l .granted)
-
--- a turn that says nothing is no grant
-no-grant : (es : List Event) (f : ℕ) → es ≢ es ++ event grant f ∷ []
-no-grant es f e = omega (arith, ap length e, length-append es (event grant f ∷ []))
 
 -- ---- two boards
 
@@ -73,7 +68,21 @@ module _ (w : Slip) (two : w .settings .procs ≡ 2) where
     right = λ i l. both-boards right c d i (rw two at l);
   }
 
--- ---- the queue lock
+-- a turn that says nothing passes over board 1, where it alone is in line and nobody holds
+passed : (m : Machine) (s : Settings) (t : List ℕ) → 1 < s .procs → length (of grant (whole m s t .events)) ≡ length (of release (whole m s t .events))
+    → of join (whole m s t .events) ≡ of grant (whole m s t .events) ++ 1 ∷ [] → whole m s (t ++ 1 ∷ []) .taken ≡ suc (whole m s t .taken)
+    → whole m s (t ++ 1 ∷ []) .events ≡ whole m s t .events → PassedOver m s t
+passed m s t l h j k e = record {
+  nobody-holds = h;
+  first = 1;
+  behind = [];
+  in-line = j;
+  one-of-them = l;
+  taken = k;
+  not-granted = λ z. omega (arith, ap length (sym e ∙ z), length-append (whole m s t .events) (event grant 1 ∷ []));
+}
+
+-- ---- a spin changes nothing in the wrong machines either
 
 calm1 : AllCalm notCleared
 calm1 = altered-calm mcs.machine 1 _ (λ s x i. goes-on refl) mcs-calm
@@ -84,29 +93,6 @@ calm2 = exchanged-calm mcs.machine 3 4 _ _ (λ s x i. goes-on refl) (λ s x i. g
 calm3 : AllCalm forgotten
 calm3 = altered-calm mcs.machine 8 _ (λ s x i. goes-on refl) mcs-calm
 
-slip-1 : PassedOver notCleared (slip1 .settings) (take 17 (slip1 .order)) × Freezes slip1
-unfolding whole play after within taking turn remote upd mcs.step
-slip-1 = (
-  record { nobody-holds = refl; first = 1; behind = []; in-line = refl; one-of-them = omega arith; taken = refl; not-granted = no-grant _ 1 },
-  freezes slip1 refl calm1 1 (omega arith) (omega arith) refl refl refl refl,
-)
-
-slip-2 : PassedOver linkedFirst (slip2 .settings) (take 7 (slip2 .order)) × Freezes slip2
-unfolding whole play after within taking turn remote upd mcs.step
-slip-2 = (
-  record { nobody-holds = refl; first = 1; behind = []; in-line = refl; one-of-them = omega arith; taken = refl; not-granted = no-grant _ 1 },
-  freezes slip2 refl calm2 1 (omega arith) (omega arith) refl refl refl refl,
-)
-
-slip-3 : PassedOver forgotten (slip3 .settings) (take 6 (slip3 .order)) × Freezes slip3
-unfolding whole play after within taking turn remote upd mcs.step
-slip-3 = (
-  record { nobody-holds = refl; first = 1; behind = []; in-line = refl; one-of-them = omega arith; taken = refl; not-granted = no-grant _ 1 },
-  freezes slip3 refl calm3 1 (omega arith) (omega arith) refl refl refl refl,
-)
-
--- ---- the ticket lock
-
 calm4 : AllCalm lessThan
 calm4 = altered-calm ticket.machine 2 _ (λ s x i. wait s x (leb (x .mine i) (x .release))) ticket-calm
   where
@@ -114,58 +100,35 @@ calm4 = altered-calm ticket.machine 2 _ (λ s x i. wait s x (leb (x .mine i) (x 
     wait s x true = goes-on refl
     wait s x false = stays refl refl refl
 
--- 1 is let in, and 0 joined first
-slip-4 : OutOfOrder (whole lessThan (slip4 .settings) (take 3 (slip4 .order)) .events) × Freezes slip4
-unfolding whole play after within taking turn remote upd ticket.step
-slip-4 = (
-  λ p. let e = p .adds in let z : _≡_ {A = ℕ} 1 0 = cc in omega arith,
-  freezes slip4 refl calm4 0 (omega arith) (omega arith) refl refl refl refl,
-)
-
--- ---- barriers
-
-calm5 : (toggle : ℕ → ℕ) → AllCalm (oneParity toggle)
-calm5 toggle = altered-calm dissem.machine 2 _
-    (λ s x i. calm-or (eqb (x .flag i (dissem.variable x i (x .round i))) (x .sense i) && eqb (x .round i + 1) (dissem.doublings (s .procs)))
-    (goes-on refl) (dissem-calm s x 2 i)) dissem-calm
+calm5 : AllCalm toggled
+calm5 =
+    altered-calm dissem.machine 2 _ (λ s x i.
+    calm-or (eqb (x .flag i (dissem.variable x i (x .round i))) (x .sense i) && eqb (x .round i + 1) (dissem.doublings (s .procs))) (goes-on refl) (dissem-calm s x 2 i)) dissem-calm
 
 calm6 : AllCalm resetLate
 calm6 = exchanged-calm central.machine 2 3 _ _ (λ s x i. goes-on refl) (λ s x i. goes-on refl) central-calm
 
-slip-5a : (¬ (Early 2 (whole toggled (slip5a .settings) (slip5a .order) .events))) × Freezes slip5a
-unfolding whole play after within taking turn remote upd dissem.step dissem.doublings dissem.doubled
-slip-5a = (
-  not-early _ (omega arith) (omega arith) (omega arith) (omega arith),
-  freezes slip5a refl (calm5 (λ v. 1 - v)) 0 (omega arith) (omega arith) refl refl refl refl,
-)
-
--- 0 has left twice, 1 has arrived once; with the right barrier 0 has left once
-slip-5b : Early 2 (whole untoggled (slip5b .settings) (slip5b .order) .events)
-    × (¬ (Early 2 (whole dissem.machine (slip5b .settings) (slip5b .order) .events)))
-    × AllDone (slip5b .settings) (whole dissem.machine (slip5b .settings) (slip5b .order ++ slip5b .rest))
-unfolding whole play after within taking turn remote upd dissem.step dissem.doublings dissem.doubled
-slip-5b = (
-  record { left = 0; missing = 1; two-of-them = (omega arith, omega arith); before = omega arith },
-  not-early _ (omega arith) (omega arith) (omega arith) (omega arith),
-  both-boards (right slip5b refl) refl refl,
-)
-
-slip-6 : (¬ (Early 2 (whole resetLate (slip6 .settings) (slip6 .order) .events))) × Freezes slip6
-unfolding whole play after within taking turn remote upd central.step
-slip-6 = (
-  not-early _ (omega arith) (omega arith) (omega arith) (omega arith),
-  freezes slip6 refl calm6 0 (omega arith) (omega arith) refl refl refl refl,
-)
+-- ---- the slips
 
 pub slips : Slips
+unfolding whole play after within taking turn remote upd ticket.step mcs.step central.step dissem.step dissem.doublings dissem.doubled
 slips = record {
   passed-over = passed-over;
   out-of-order = out-of-order;
-  one = slip-1;
-  two = slip-2;
-  three = slip-3;
-  four = slip-4;
-  five-a = slip-5a;
-  six = slip-6;
-  five-b = slip-5b;
+  one = (passed _ _ _ (omega arith) refl refl refl refl, freezes slip1 refl calm1 1 (omega arith) (omega arith) refl refl refl refl);
+  two = (passed _ _ _ (omega arith) refl refl refl refl, freezes slip2 refl calm2 1 (omega arith) (omega arith) refl refl refl refl);
+  three = (passed _ _ _ (omega arith) refl refl refl refl, freezes slip3 refl calm3 1 (omega arith) (omega arith) refl refl refl refl);
+  -- 1 is let in, and 0 joined first
+  four = (
+    λ p. let e = p .adds in let z : _≡_ {A = ℕ} 1 0 = cc in omega arith,
+    freezes slip4 refl calm4 0 (omega arith) (omega arith) refl refl refl refl,
+  );
+  five-a = (not-early _ (omega arith) (omega arith) (omega arith) (omega arith), freezes slip5a refl calm5 0 (omega arith) (omega arith) refl refl refl refl);
+  six = (not-early _ (omega arith) (omega arith) (omega arith) (omega arith), freezes slip6 refl calm6 0 (omega arith) (omega arith) refl refl refl refl);
+  -- 0 has left twice, 1 has arrived once; with the right barrier 0 has left once
+  five-b = (
+    record { left = 0; missing = 1; two-of-them = (omega arith, omega arith); before = omega arith },
+    not-early _ (omega arith) (omega arith) (omega arith) (omega arith),
+    both-boards (right slip5b refl) refl refl,
+  );
 }

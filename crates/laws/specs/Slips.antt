@@ -99,9 +99,9 @@ slip4 = record {
 
 -- ---- 5: dissemination with one parity only
 
--- what becomes of the sense at a leaving
-abbrev pub oneParity : (ℕ → ℕ) → Machine
-oneParity toggle = altered dissem.machine 2 (λ s x i.
+-- a leaving keeps the parity; what becomes of the sense
+abbrev pub leaves : (ℕ → ℕ) → Settings → dissem.State → ℕ → Step dissem.State
+leaves toggle s x i =
     pick (eqb (x .flag i (dissem.variable x i (x .round i))) (x .sense i) && eqb (x .round i + 1) (dissem.doublings (s .procs)))
     (record {
       memory = record { flag = x .flag; sense = upd (x .sense) i (toggle (x .sense i)); parity = x .parity; round = upd (x .round) i 0 };
@@ -109,7 +109,10 @@ oneParity toggle = altered dissem.machine 2 (λ s x i.
       says = one leave;
       then = over;
     })
-    (dissem.step s x 2 i))
+    (dissem.step s x 2 i)
+
+abbrev pub oneParity : (ℕ → ℕ) → Machine
+oneParity toggle = altered dissem.machine 2 (leaves toggle)
 
 -- the sense is toggled at every leaving
 abbrev pub toggled : Machine
