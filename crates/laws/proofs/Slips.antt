@@ -1,6 +1,6 @@
 -- Each slip of document 01 is shown by its order of turns.
 use mathlib.Core.Path.{_≡_, refl, sym, ap, _∙_}
-use mathlib.Core.Bool.{Bool, true, false, _&&_}
+use mathlib.Core.Bool.{true, _&&_}
 use mathlib.Core.List.{List, [], _∷_, _++_, append-nil}
 use Prim.Native.Nat.{ℕ, zero, suc, _+_, _≤_, _<_}
 use native.Mathlib.Omega.{arith}
@@ -19,7 +19,7 @@ use Rattle.rules.specs.Dissem as dissem
 use Rattle.laws.specs.Laws.{of, times, InLine, waits, PassedOver, OutOfOrder, Early, Freezes, Slips}
 use Rattle.laws.specs.Slips.{Slip, notCleared, linkedFirst, forgotten, lessThan, toggled, resetLate, slip1, slip2, slip3, slip4, slip5a, slip5b, slip6}
 use Rattle.laws.proofs.Waiting.{lasts}
-use Rattle.laws.proofs.Steadiness.{Calm, goes-on, stays, calm-or, AllCalm, steady, ticket-calm, mcs-calm, central-calm, dissem-calm, altered-calm, exchanged-calm}
+use Rattle.laws.proofs.Steadiness.{goes-on, calm-or, AllCalm, steady, ticket-waits-calm, ticket-calm, mcs-calm, central-calm, dissem-calm, altered-calm, exchanged-calm}
 
 -- ---- demand 3 broken
 
@@ -94,11 +94,7 @@ calm3 : AllCalm forgotten
 calm3 = altered-calm mcs.machine 8 _ (λ s x i. goes-on refl) mcs-calm
 
 calm4 : AllCalm lessThan
-calm4 = altered-calm ticket.machine 2 _ (λ s x i. wait s x (leb (x .mine i) (x .release))) ticket-calm
-  where
-    wait : (s : Settings) (x : ticket.State) (b : Bool) → Calm x (ticket.waits b s x)
-    wait s x true = goes-on refl
-    wait s x false = stays refl refl refl
+calm4 = altered-calm ticket.machine 2 _ (λ s x i. ticket-waits-calm s x (leb (x .mine i) (x .release))) ticket-calm
 
 calm5 : AllCalm toggled
 calm5 =

@@ -65,13 +65,15 @@ steady m c = steady-by m (λ s x k i. calm (c s x k i))
 
 -- ---- machines
 
+pub ticket-waits-calm : (s : Settings) (x : ticket.State) (b : Bool) → Calm x (ticket.waits b s x)
+ticket-waits-calm s x true = goes-on refl
+ticket-waits-calm s x false = stays refl refl refl
+
 pub ticket-calm : AllCalm ticket.machine
 unfolding ticket.step
-ticket-calm s x k i = calm-or (eqb k 1) (goes-on refl) (calm-or (eqb k 2) (wait (eqb (x .release) (x .mine i))) (calm-or (eqb k 3) (goes-on refl) (goes-on refl)))
-  where
-    wait : (b : Bool) → Calm x (ticket.waits b s x)
-    wait true = goes-on refl
-    wait false = stays refl refl refl
+ticket-calm s x k i =
+    calm-or (eqb k 1) (goes-on refl) (calm-or (eqb k 2) (ticket-waits-calm s x (eqb (x .release) (x .mine i))) (
+    calm-or (eqb k 3) (goes-on refl) (goes-on refl)))
 
 pub mcs-calm : AllCalm mcs.machine
 unfolding mcs.step
