@@ -1,11 +1,12 @@
 -- Each slip of document 01 is shown by its order of turns.
 use mathlib.Core.Path.{_≡_, refl, sym, ap, _∙_}
+use mathlib.Core.Logic.{_≢_}
 use mathlib.Core.Bool.{true, _&&_}
 use mathlib.Core.List.{List, [], _∷_, _++_, append-nil}
 use Prim.Native.Nat.{ℕ, zero, suc, _+_, _≤_, _<_}
 use native.Mathlib.Omega.{arith}
 use lib.Dec.{eqb, leb}
-use lib.ListN.{length, length-append}
+use lib.ListN.{length, length-append, take}
 use Rattle.rules.specs.Memory.{upd}
 use Rattle.rules.specs.Settings.{Settings, entry}
 use Rattle.rules.specs.Step.{remote, join, grant, release, arrive, leave, Event, event, Machine}
@@ -82,6 +83,13 @@ passed m s t l h j k e = record {
   not-granted = λ z. omega (arith, ap length (sym e ∙ z), length-append (whole m s t .events) (event grant 1 ∷ []));
 }
 
+-- the first who is let in is not the first who joined
+other-first : (es : List Event) (f g : ℕ) (a b : List ℕ) → of grant es ≡ f ∷ a → of join es ≡ g ∷ b → f ≢ g → OutOfOrder es
+other-first es f g a b e h n p = n (same (f ∷ a) (p .rest) (g ∷ b) refl refl (rw (e, h) at (p .adds)))
+  where
+    same : (l r k : List ℕ) → l ≡ f ∷ a → k ≡ g ∷ b → l ++ r ≡ k → f ≡ g
+    same l r k x y z = cc
+
 -- ---- a spin changes nothing in the wrong machines either
 
 calm1 : AllCalm notCleared
@@ -116,7 +124,7 @@ slips = record {
   three = (passed _ _ _ (omega arith) refl refl refl refl, freezes slip3 refl calm3 1 (omega arith) (omega arith) refl refl refl refl);
   -- 1 is let in, and 0 joined first
   four = (
-    λ p. let e = p .adds in let z : _≡_ {A = ℕ} 1 0 = cc in omega arith,
+    other-first (whole lessThan (slip4 .settings) (take 3 (slip4 .order)) .events) 1 0 [] (1 ∷ []) refl refl (λ z. omega arith),
     freezes slip4 refl calm4 0 (omega arith) (omega arith) refl refl refl refl,
   );
   five-a = (not-early _ (omega arith) (omega arith) (omega arith) (omega arith), freezes slip5a refl calm5 0 (omega arith) (omega arith) refl refl refl refl);
