@@ -58,14 +58,16 @@ module _ (w : Slip) (two : w .settings .procs ≡ 2) where
 
   freezes : AllCalm (w .wrong) → (who : ℕ) → who < 2
       → whole (w .wrong) (w .settings) (w .order) .course .done who < entry (w .settings .rounds) who
-      → waits (wrong 0) ≡ true → waits (wrong 1) ≡ true → right 0 → right 1 → Freezes w
-  freezes calm who l h a b c d = record {
+      → waits (wrong 0) ≡ true → waits (wrong 1) ≡ true → whole (w .wrong) (w .settings) (w .order ++ w .rest) .events ≡ w .heard
+      → right 0 → right 1 → Freezes w
+  freezes calm who l h a b e c d = record {
     frozen = lasts (w .wrong) (steady (w .wrong) calm) (w .settings) (w .order) (record {
       who = who;
       one-of-them = omega arith;
       passages-left = h;
       all-wait = λ i l. both-boards (λ i. waits (wrong i) ≡ true) a b i (rw two at l);
     });
+    heard = e;
     right = λ i l. both-boards right c d i (rw two at l);
   }
 
@@ -119,18 +121,19 @@ unfolding whole play after within taking turn remote upd ticket.step mcs.step ce
 slips = record {
   passed-over = passed-over;
   out-of-order = out-of-order;
-  one = (passed _ _ _ (omega arith) refl refl refl refl, freezes slip1 refl calm1 1 (omega arith) (omega arith) refl refl refl refl);
-  two = (passed _ _ _ (omega arith) refl refl refl refl, freezes slip2 refl calm2 1 (omega arith) (omega arith) refl refl refl refl);
-  three = (passed _ _ _ (omega arith) refl refl refl refl, freezes slip3 refl calm3 1 (omega arith) (omega arith) refl refl refl refl);
+  one = (passed _ _ _ (omega arith) refl refl refl refl, freezes slip1 refl calm1 1 (omega arith) (omega arith) refl refl refl refl refl);
+  two = (passed _ _ _ (omega arith) refl refl refl refl, freezes slip2 refl calm2 1 (omega arith) (omega arith) refl refl refl refl refl);
+  three = (passed _ _ _ (omega arith) refl refl refl refl, freezes slip3 refl calm3 1 (omega arith) (omega arith) refl refl refl refl refl);
   -- 1 is let in, and 0 joined first
   four = (
     other-first (whole lessThan (slip4 .settings) (take 3 (slip4 .order)) .events) 1 0 [] (1 ∷ []) refl refl (λ z. omega arith),
-    freezes slip4 refl calm4 0 (omega arith) (omega arith) refl refl refl refl,
+    freezes slip4 refl calm4 0 (omega arith) (omega arith) refl refl refl refl refl,
   );
-  five-a = (not-early _ (omega arith) (omega arith) (omega arith) (omega arith), freezes slip5a refl calm5 0 (omega arith) (omega arith) refl refl refl refl);
-  six = (not-early _ (omega arith) (omega arith) (omega arith) (omega arith), freezes slip6 refl calm6 0 (omega arith) (omega arith) refl refl refl refl);
+  five-a = (not-early _ (omega arith) (omega arith) (omega arith) (omega arith), freezes slip5a refl calm5 0 (omega arith) (omega arith) refl refl refl refl refl);
+  six = (not-early _ (omega arith) (omega arith) (omega arith) (omega arith), freezes slip6 refl calm6 0 (omega arith) (omega arith) refl refl refl refl refl);
   -- 0 has left twice, 1 has arrived once; with the right barrier 0 has left once
   five-b = (
+    refl,
     record { left = 0; missing = 1; two-of-them = (omega arith, omega arith); before = omega arith },
     not-early _ (omega arith) (omega arith) (omega arith) (omega arith),
     both-boards (right slip5b refl) refl refl,

@@ -209,6 +209,7 @@ pub record Early (procs : ℕ) (es : List Event) : Type 0 where
 -- the order freezes the wrong machine; with it, and the rest, the right one has done all passages
 pub record Freezes (w : Slip) : Type 0 where
   pub frozen : Frozen (w .wrong) (w .settings) (w .order)
+  pub heard : whole (w .wrong) (w .settings) (w .order ++ w .rest) .events ≡ w .heard
   pub right : AllDone (w .settings) (whole (w .right) (w .settings) (w .order ++ w .rest))
 
 -- ---- calls of run
@@ -448,7 +449,8 @@ pub record Slips : Type 1 where
   pub five-a : (¬ (Early 2 (whole toggled (slip5a .settings) (slip5a .order) .events))) × Freezes slip5a
   pub six : (¬ (Early 2 (whole resetLate (slip6 .settings) (slip6 .order) .events))) × Freezes slip6
   -- 5 in its second form: somebody leaves early; with the right barrier nobody does, and all passages can be done
-  pub five-b : Early 2 (whole untoggled (slip5b .settings) (slip5b .order) .events)
+  pub five-b : (whole untoggled (slip5b .settings) (slip5b .order ++ slip5b .rest) .events ≡ slip5b .heard)
+      × Early 2 (whole untoggled (slip5b .settings) (slip5b .order) .events)
       × (¬ (Early 2 (whole dissem.machine (slip5b .settings) (slip5b .order) .events)))
       × AllDone (slip5b .settings) (whole dissem.machine (slip5b .settings) (slip5b .order ++ slip5b .rest))
 

@@ -5,7 +5,7 @@ use mathlib.Core.List.{List, [], _∷_}
 use lib.Dec.{eqb, leb}
 use Rattle.rules.specs.Memory.{pick, upd}
 use Rattle.rules.specs.Settings.{Settings}
-use Rattle.rules.specs.Step.{none, reads, Says, nothing, one, release, leave, Next, to, over, Step, Machine}
+use Rattle.rules.specs.Step.{none, reads, join, grant, release, arrive, leave, Says, nothing, one, Event, event, Next, to, over, Step, Machine}
 use Rattle.rules.specs.Ticket as ticket
 use Rattle.rules.specs.Mcs as mcs
 use Rattle.rules.specs.Central as central
@@ -23,13 +23,30 @@ exchanged m j k atJ atK = altered (altered m j atJ) k atK
 abbrev pub instead : {S : Type 0} → Says → Next → Step S → Step S
 instead says next w = record { memory = w .memory; access = w .access; says = says; then = next }
 
--- a wrong machine and the right one; settings, an order of turns that shows it, and the turns with which the right one then finishes
+-- a wrong machine and the right one; settings, an order of turns that shows it, and the turns with which the right one then finishes;
+-- and the events of the wrong one, with all these turns
 pub record Slip : Type 1 where
   pub wrong : Machine
   pub right : Machine
   pub settings : Settings
   pub order : List ℕ
   pub rest : List ℕ
+  pub heard : List Event
+
+abbrev pub j : ℕ → Event
+j i = event join i
+
+abbrev pub g : ℕ → Event
+g i = event grant i
+
+abbrev pub r : ℕ → Event
+r i = event release i
+
+abbrev pub a : ℕ → Event
+a i = event arrive i
+
+abbrev pub l : ℕ → Event
+l i = event leave i
 
 -- two boards with so many passages each
 abbrev pub boards : (algo ticket rounds : ℕ) → Settings
@@ -49,6 +66,7 @@ slip1 = record {
   settings = boards 2 0 2;
   order = 0 ∷ 0 ∷ 1 ∷ 1 ∷ 1 ∷ 1 ∷ 0 ∷ 0 ∷ 0 ∷ 1 ∷ 1 ∷ 1 ∷ 0 ∷ 0 ∷ 0 ∷ 1 ∷ 1 ∷ 1 ∷ 1 ∷ [];
   rest = 0 ∷ 1 ∷ 0 ∷ 1 ∷ [];
+  heard = j 0 ∷ g 0 ∷ j 1 ∷ r 0 ∷ g 1 ∷ r 1 ∷ j 0 ∷ g 0 ∷ r 0 ∷ j 1 ∷ [];
 }
 
 -- ---- 2: steps 3 and 4 exchanged
@@ -64,6 +82,7 @@ slip2 = record {
   settings = boards 2 0 1;
   order = 0 ∷ 0 ∷ 1 ∷ 1 ∷ 1 ∷ 0 ∷ 0 ∷ 1 ∷ [];
   rest = 0 ∷ 0 ∷ 1 ∷ 1 ∷ 1 ∷ [];
+  heard = j 0 ∷ g 0 ∷ j 1 ∷ r 0 ∷ [];
 }
 
 -- ---- 3: a failed compare-and-swap taken as a release
@@ -79,6 +98,7 @@ slip3 = record {
   settings = boards 2 0 1;
   order = 0 ∷ 0 ∷ 0 ∷ 1 ∷ 1 ∷ 0 ∷ 1 ∷ 1 ∷ [];
   rest = 0 ∷ 0 ∷ 1 ∷ 1 ∷ 1 ∷ [];
+  heard = j 0 ∷ g 0 ∷ j 1 ∷ r 0 ∷ [];
 }
 
 -- ---- 4: tickets compared by less-than
@@ -95,6 +115,7 @@ slip4 = record {
   settings = boards 1 65535 1;
   order = 0 ∷ 1 ∷ 1 ∷ 1 ∷ 1 ∷ [];
   rest = 0 ∷ 0 ∷ 0 ∷ 1 ∷ 1 ∷ 1 ∷ [];
+  heard = j 0 ∷ j 1 ∷ g 1 ∷ r 1 ∷ [];
 }
 
 -- ---- 5: dissemination with one parity only
@@ -126,6 +147,7 @@ slip5a = record {
   settings = boards 4 0 2;
   order = 0 ∷ 1 ∷ 0 ∷ 0 ∷ [];
   rest = 0 ∷ 1 ∷ 1 ∷ 0 ∷ 1 ∷ [];
+  heard = a 0 ∷ a 1 ∷ l 0 ∷ a 0 ∷ [];
 }
 
 -- or never
@@ -140,6 +162,7 @@ slip5b = record {
   settings = boards 4 0 2;
   order = 0 ∷ 1 ∷ 0 ∷ 0 ∷ 0 ∷ [];
   rest = 1 ∷ 1 ∷ 0 ∷ 1 ∷ [];
+  heard = a 0 ∷ a 1 ∷ l 0 ∷ a 0 ∷ l 0 ∷ l 1 ∷ a 1 ∷ l 1 ∷ [];
 }
 
 -- ---- 6: count reset after sense is written
@@ -155,4 +178,5 @@ slip6 = record {
   settings = boards 3 0 2;
   order = 0 ∷ 1 ∷ 1 ∷ 0 ∷ 0 ∷ 1 ∷ 1 ∷ [];
   rest = 0 ∷ 0 ∷ 0 ∷ 0 ∷ 1 ∷ [];
+  heard = a 0 ∷ a 1 ∷ l 0 ∷ a 0 ∷ l 1 ∷ a 1 ∷ [];
 }
