@@ -1,5 +1,5 @@
 -- No lock freezes: the laws of it, by their proofs.
-use mathlib.Core.Path.{_≡_, refl}
+use mathlib.Core.Path.{_≡_, refl, sym, _∙_}
 use mathlib.Core.Bool.{true, false}
 use mathlib.Core.List.{List, [], _∷_, _++_}
 use Prim.Native.Nat.{ℕ, zero, suc, _*_, _≤_, _<_}
@@ -15,6 +15,7 @@ use Rattle.rules.specs.Calls.{allBelow}
 use Rattle.rules.specs.Ticket as ticket
 use Rattle.rules.specs.Mcs as mcs
 use Rattle.laws.specs.Laws.{sum, times, LockRun, ticket-run, queue-run, waits, AllDone, Sweep, Sweeps, none, more, ticketSteps, queueSteps, mostSteps, enough, mostReferences, oneBoard, Going}
+use Rattle.rules.proofs.Store.{false-true}
 use Rattle.rules.proofs.Accepted.{below, all-below}
 use Rattle.laws.proofs.Lists.{below-append}
 use Rattle.laws.proofs.Totals.{sum-times}
@@ -69,6 +70,7 @@ going = record {
   lasts = λ m k s. lasts m k s;
   steady = machine-steady;
   unstuck = unstuck;
+  no-standstill = λ m s t l z. let g = unstuck m s t l (z .who) (z .one-of-them) (z .passages-left) in false-true (sym (g .2) ∙ z .all-wait (g .0) (g .1));
   finishes = finishes;
   never-stopped = λ s t b h. four-suffice s (omega (arith, h, priced s)) t b;
   queue-finishes = queue-finishes;

@@ -419,6 +419,7 @@ pub record Going : Type 1 where
   -- after every turn of a lock run: where somebody has a passage left, somebody's next turn is neither a spin nor idle
   pub unstuck : (m : Machine) (s : Settings) (t : List ℕ) → LockRun m s t → (i : ℕ) → i < s .procs → whole m s t .course .done i < entry (s .rounds) i
       → (j : ℕ) × (j < s .procs) × (waits (next m s (whole m s t) j) ≡ false)
+  pub no-standstill : (m : Machine) (s : Settings) (t : List ℕ) → LockRun m s t → ¬ (Standstill m s (whole m s t))
   -- so from the state after any schedule all passages are done after enough sweeps, unless the budget stops the run
   pub finishes : (m : Machine) (s : Settings) (t u : List ℕ) (l : LockRun m s t) → Sweeps (s .procs) (enough (mostSteps l) s) u
       → whole m s (t ++ u) .stopped ≡ false → AllDone s (whole m s (t ++ u))
