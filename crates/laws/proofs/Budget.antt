@@ -17,28 +17,25 @@ use Rattle.rules.proofs.Plays.{after-takes}
 use Rattle.laws.specs.Laws.{sum}
 use Rattle.laws.proofs.Totals.{sum-least, sum-zero, summed}
 use Rattle.laws.proofs.Courses.{AllDue, Due, due-turn}
-use Rattle.laws.proofs.Costs.{Account, under-way, begun≤, stepped, after-step, Of, by-taking, Cost, Capped, capped-start, capped-step, capped-others}
-
--- a step made at k leads to step 1 only where it ends the passage
-abbrev pub Inside : Next → ℕ → Type 0
-Inside stay k = k ≢ 1
-Inside (again j) k = j ≢ 1
-Inside (to j) k = j ≢ 1
-Inside over k = Unit {0}
+use Rattle.laws.proofs.Costs.{Account, Inside, under-way, begun≤, stepped, after-step, Of, by-taking, Cost, Capped, capped-start, capped-step, capped-others}
 
 -- the references in all: at most top for each passage done, and those of the one under way
 abbrev Owes : ℕ → Account → Type 0
 Owes top a = a .far ≤ a .done * top + begun (a .at) (a .here)
 
 module _ (top : ℕ) (a : Account) (o : Owes top a) (r : ℕ) (b : begun (a .at) (a .here) + r ≤ top) where
-  owes-step : (n : Next) → Inside n (a .at) → Owes top (stepped n r a)
-  owes-step stay f = omega (arith, under-way (a .at) (begun (a .at) (a .here) + r) f)
-  owes-step (again k) f = omega (arith, under-way k (begun (a .at) (a .here) + r) f)
-  owes-step (to k) f = omega (arith, under-way k (begun (a .at) (a .here) + r) f)
+  -- the passage goes on at k
+  on : (k : ℕ) → k ≢ 1 → Owes top (stepped (to k) r a)
+  on k f = omega (arith, under-way k (begun (a .at) (a .here) + r) f)
+
+  owes-step : (n : Next) → Inside (Unit {0}) n (a .at) → Owes top (stepped n r a)
+  owes-step stay f = on (a .at) f
+  owes-step (again k) f = on k f
+  owes-step (to k) f = on k f
   owes-step over f = omega (arith, add-mul (a .done) 1 top, one-mul top)
 
 module _ (m : Machine) (s : Settings) (k : Cost m s)
-    (inside : (x : m .State) (i c h : ℕ) → k .Cap x i c h → Inside (m .step s x c i .then) c) where
+    (inside : (x : m .State) (i c h : ℕ) → k .Cap x i c h → Inside (Unit {0}) (m .step s x c i .then) c) where
   abbrev Kept : m .State → ℕ → Account → Type 0
   Kept x i a = Capped m s k x i a × Owes (k .top i) a × (begun (a .at) (a .here) ≤ k .top i)
 

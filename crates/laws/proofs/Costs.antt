@@ -8,7 +8,7 @@ use native.Mathlib.Omega.{arith}
 use borrow.Author.Tests.{ne-eqb}
 use lib.Dec.{eqb}
 use Rattle.rules.specs.Settings.{Settings}
-use Rattle.rules.specs.Step.{remote, Next, Step, Machine}
+use Rattle.rules.specs.Step.{remote, Next, stay, again, to, over, Step, Machine}
 use Rattle.rules.specs.Course.{Course, outset, makes, memory, course}
 use Rattle.rules.specs.Tally.{Tally, blank, begun, tally}
 use Rattle.rules.specs.Play.{Run, taking, after, whole}
@@ -28,6 +28,13 @@ pub record Account : Type 0 where
 
 abbrev pub account : Course → Tally → ℕ → Account
 account c t i = record { at = c .at i; done = c .done i; here = t .here i; far = t .far i; most = t .most i }
+
+-- a step made at k leads to step 1 only where it ends the passage; and what holds then
+abbrev pub Inside : Type 0 → Next → ℕ → Type 0
+Inside last stay k = k ≢ 1
+Inside last (again j) k = j ≢ 1
+Inside last (to j) k = j ≢ 1
+Inside last over k = last
 
 -- the references of the passage under way
 pub under-way : (k h : ℕ) → k ≢ 1 → begun k h ≡ h

@@ -15,14 +15,11 @@ use Rattle.rules.proofs.Steps.{passed}
 use Rattle.rules.proofs.Plays.{whole-snoc}
 use Rattle.laws.specs.Laws.{sum}
 use Rattle.laws.proofs.Totals.{sum-times, total-summed}
-use Rattle.laws.proofs.Costs.{Account, under-way, stepped, after-step, account, by-account, by-accounts, Cost, Capped, capped-start, capped-step, capped-others}
+use Rattle.laws.proofs.Costs.{Account, Inside, under-way, stepped, after-step, account, by-account, by-accounts, Cost, Capped, capped-start, capped-step, capped-others}
 
 -- a step made at k, with h references in the passage so far: the last one leaves exactly top, and no other leads to step 1
 abbrev pub Pays : Next → (k h top : ℕ) → Type 0
-Pays stay k h top = k ≢ 1
-Pays (again j) k h top = j ≢ 1
-Pays (to j) k h top = j ≢ 1
-Pays over k h top = h ≡ top
+Pays n k h top = Inside (h ≡ top) n k
 
 -- an exact price: processor i pays top i for a passage
 pub record Price (m : Machine) (s : Settings) : Type 1 where
