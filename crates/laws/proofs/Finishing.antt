@@ -10,8 +10,8 @@ use native.Mathlib.Omega.{arith}
 use borrow.Author.Tests.{ne-eqb}
 use Rattle.rules.specs.Memory.{pick}
 use Rattle.rules.specs.Settings.{Settings, entry}
-use Rattle.rules.specs.Step.{stay, to, over, Step, Machine}
-use Rattle.rules.specs.Course.{Course, Turn, holds, makes, turn, holding, course}
+use Rattle.rules.specs.Step.{Step, Machine}
+use Rattle.rules.specs.Course.{Course, Turn, holds, makes, turn, course}
 use Rattle.rules.specs.Play.{Run, first, next, taking, after, play, whole}
 use Rattle.rules.specs.Calls.{allBelow}
 use Rattle.rules.proofs.Store.{upd-same, false-true}
@@ -19,30 +19,13 @@ use Rattle.rules.proofs.Accepted.{Below, below}
 use Rattle.rules.proofs.Plays.{by-after, by-turn, play-append, goes-on, after-taken, continued}
 use Rattle.laws.specs.Laws.{times, sum, waits, AllDone, Sweeps, none, more, enough, Steady}
 use Rattle.laws.proofs.Lists.{below-append}
+use Rattle.laws.proofs.Passages.{Walks, stays, goes-to, goes-in, ends-it, Passage}
 use Rattle.laws.proofs.Beginnings.{begins-play}
 use Rattle.laws.proofs.Totals.{sum-less}
 use Rattle.laws.proofs.Courses.{Due, all-due}
 use Rattle.laws.proofs.Locks.{Lock, Good, good, good-on}
 use Rattle.laws.proofs.Waiting.{unmoved, alike-other}
 use Rattle.laws.proofs.Unstuck.{goer}
-
--- ---- how far a passage is
-
--- at step k, with h hold turns in a passage: at most so many turns of the passage are still to come, behind the one at k, but for spins
-abbrev pub Ahead : Type 0
-Ahead = (h k : ℕ) → ℕ
-
--- a step made where v are to come: it stays; it goes to a step where fewer are; or it ends the passage
-pub data Nearer {S : Type 0} (ahead : Ahead) (h : ℕ) (w : Step S) (v : ℕ) : Type 0 where
-  stays : w .then ≡ stay → holding (w .says) ≡ false → Nearer ahead h w v
-  goes-to : (j : ℕ) → w .then ≡ to j → ahead h j + pick (holding (w .says)) h 0 < v → Nearer ahead h w v
-  ends-it : w .then ≡ over → holding (w .says) ≡ false → Nearer ahead h w v
-
--- a passage has at most so many steps that are no spins
-pub record Passage (m : Machine) (s : Settings) (steps : ℕ) : Type 0 where
-  pub ahead : Ahead
-  pub first : (h : ℕ) → suc (ahead h 1) ≡ steps + h
-  pub nearer : (x : m .State) (k i h : ℕ) → Nearer ahead h (m .step s x k i) (ahead h k)
 
 pub sweeps-below : {p n : ℕ} {u : List ℕ} → Sweeps p n u → Below p u
 sweeps-below none = tt
@@ -62,7 +45,7 @@ work-over d w b p l = omega (arith, add-mul d 1 w, one-mul w)
 work-due : (d n w b : ℕ) → 0 < b → b ≤ w → d < n → work d w b + 1 ≤ n * w
 work-due d n w b p l h = omega (arith, work-over d w b p l, mul-le-mul-right w h)
 
-module _ (m : Machine) (s : Settings) (steps : ℕ) (p : Passage m s steps) where
+module _ (m : Machine) (s : Settings) (steps in-it : ℕ) (p : Passage m s steps in-it) where
   abbrev hold : ℕ → ℕ
   hold i = entry (s .hold) i
 
@@ -86,7 +69,7 @@ module _ (m : Machine) (s : Settings) (steps : ℕ) (p : Passage m s steps) wher
     Worked w = (coming (course s i w c) i ≤ width i) × (done c i + pick (waits w) 0 1 ≤ done (course s i w c) i)
 
     own-turn : Worked (turn m s x c i)
-    own-turn = by-turn m s x c i Worked held (λ e d. (f, omega arith)) (λ z. step z (p .nearer x (c .at i) i (hold i)))
+    own-turn = by-turn m s x c i Worked held (λ e d. (f, omega arith)) (λ z. step z (p .walks x (c .at i) i (hold i)))
       where
         held : 0 < c .left i → Worked holds
         held l = let e = upd-same (c .left) i (c .left i - 1) in (omega arith, omega arith)
@@ -94,10 +77,10 @@ module _ (m : Machine) (s : Settings) (steps : ℕ) (p : Passage m s steps) wher
         w : Step (m .State)
         w = m .step s x (c .at i) i
 
-        step : c .left i ≡ 0 → Nearer (p .ahead) (hold i) w (p .ahead (hold i) (c .at i)) → Worked (makes w)
-        step z (stays e n) = rw (e, n) (let u = upd-same (c .left) i 0 in (omega arith, omega arith))
-        step z (goes-to j e l) =
-            rw (e, upd-same (c .at) i j, upd-same (c .left) i (pick (holding (w .says)) (hold i) 0)) (omega arith, omega arith)
+        step : c .left i ≡ 0 → Walks (p .ahead) in-it (hold i) x w (p .ahead (hold i) (c .at i)) → Worked (makes w)
+        step z (stays s e n) = rw (e, n) (let u = upd-same (c .left) i 0 in (omega arith, omega arith))
+        step z (goes-to j e n l) = rw (e, n, upd-same (c .at) i j, upd-same (c .left) i 0) (omega arith, omega arith)
+        step z (goes-in e n l) = rw (e, n, upd-same (c .at) i in-it, upd-same (c .left) i (hold i)) (omega arith, omega arith)
         step z (ends-it e n) =
             let a = p .first (hold i) in
             let b = work-over (c .done i) (width i) (coming c i) (omega arith) f in

@@ -40,8 +40,8 @@ unstuck m s t (queue-run b) = goer mcs.machine s (queue s) (whole mcs.machine s 
 finishes : (m : Machine) (s : Settings) (t u : List ℕ) (l : LockRun m s t) → Sweeps (s .procs) (enough (mostSteps l) s) u
     → whole m s (t ++ u) .stopped ≡ false → AllDone s (whole m s (t ++ u))
 finishes m s t u (ticket-run small first b) =
-    finish ticket.machine s ticketSteps (ticket-passage s) (steady ticket.machine ticket-calm) (tickets.ticket s small first) t u b
-finishes m s t u (queue-run b) = finish mcs.machine s queueSteps (mcs-passage s) (steady mcs.machine mcs-calm) (queue s) t u b
+    finish ticket.machine s ticketSteps 3 (ticket-passage s) (steady ticket.machine ticket-calm) (tickets.ticket s small first) t u b
+finishes m s t u (queue-run b) = finish mcs.machine s queueSteps 7 (mcs-passage s) (steady mcs.machine mcs-calm) (queue s) t u b
 
 -- four for each passage
 priced : (s : Settings) → sum (λ i. entry (s .rounds) i * mostReferences) (s .procs) ≡ mostReferences * sum (entry (s .rounds)) (s .procs)

@@ -2,6 +2,7 @@ pub mod Beginnings
 pub mod Totals
 pub mod Courses
 pub mod Lists
+pub mod Passages
 pub mod Locks
 pub mod McsLine
 pub mod McsTurns
@@ -18,7 +19,6 @@ pub mod Steadiness
 pub mod Slips
 pub mod Unstuck
 pub mod Finishing
-pub mod Passages
 pub mod Doubling
 pub mod Refusals
 pub mod Runs

@@ -22,6 +22,7 @@ use Rattle.rules.proofs.Accepted.{Below, below}
 use Rattle.rules.proofs.Plays.{by-after, by-turn, continued, whole-snoc}
 use Rattle.laws.specs.Laws.{Prefix, of, Without, InLine, spins}
 use Rattle.laws.proofs.Lists.{Mem, below-append}
+use Rattle.laws.proofs.Passages.{Walks, stays, goes-to, goes-in, ends-it, Passage}
 
 -- ---- what a step of processor i may do with the line, and what it says then
 
@@ -51,6 +52,15 @@ resting {q = q} {g = g} e v = record { q′ = q; g′ = g; moves = rw e rests; i
 pub data Enters {S : Type 0} (k : ℕ) (t : Step S) : Type 0 where
   no-hold : holding (t .says) ≡ false → Enters k t
   into : t .then ≡ to k → Enters k t
+
+pub enters-by : {m : Machine} {s : Settings} {steps in-it : ℕ} → Passage m s steps in-it → (x : m .State) (k i : ℕ) → Enters in-it (m .step s x k i)
+enters-by {m} {s} {in-it = in-it} p x k i = go (p .walks x k i 0)
+  where
+    go : Walks (p .ahead) in-it 0 x (m .step s x k i) (p .ahead 0 k) → Enters in-it (m .step s x k i)
+    go (stays e f n) = no-hold n
+    go (goes-to j f n l) = no-hold n
+    go (goes-in f n l) = into f
+    go (ends-it f n) = no-hold n
 
 -- one of the line q who is at a step that is no spin, and not the first
 pub record Goes (m : Machine) (s : Settings) (x : m .State) (at : ℕ → ℕ) (q : List ℕ) : Type 0 where

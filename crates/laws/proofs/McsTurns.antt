@@ -10,15 +10,16 @@ use native.Mathlib.Omega.{arith}
 use borrow.Author.Tests.{eqb-false}
 use lib.Dec.{eqb, eqb→eq}
 use lib.ListN.{length}
-use Rattle.rules.specs.Memory.{pick, upd}
+use Rattle.rules.specs.Memory.{upd}
 use Rattle.rules.specs.Settings.{Settings}
 use Rattle.rules.specs.Step.{grant, one, Step}
 use Rattle.rules.specs.Mcs.{State, setTail, setNext, setLocked, setPred, setSucc, clears, swaps, waits, looks, drains, rereads, wakes, step, machine}
-use Rattle.rules.proofs.Store.{upd-same, upd-other, zero-suc, either}
+use Rattle.rules.proofs.Store.{upd-same, upd-other, zero-suc}
 use Rattle.laws.specs.Laws.{Without, spins}
 use Rattle.laws.proofs.Lists.{Mem, Place, outside, first, behind, find, without-init, nodup-snoc}
 use Rattle.laws.proofs.Locks as locks
-use Rattle.laws.proofs.Locks.{joins, enters, gets, frees, After, resting, Enters, no-hold, into}
+use Rattle.laws.proofs.Locks.{joins, enters, gets, frees, After, resting}
+use Rattle.laws.proofs.Passages.{mcs-passage}
 use Rattle.laws.proofs.McsLine.{View, view, Wait, w3, w4, w5, Head, h5, h7, h8, h9, h10, Out, o1, o2, Chain, Inv, wait-keep, head-keep, out-keep, Apart, chain-keep, head-moves, out-moves, Focus, focus, mid-moves}
 
 abbrev Kept : State → (ℕ → ℕ) → List ℕ → List ℕ → Type 0
@@ -237,36 +238,6 @@ module _ (s : Settings) (x : State) (at : ℕ → ℕ) where
       go (h9 e n z) = absurd (zero-suc (ap length z))
       go (h10 e n z) = absurd (zero-suc (ap length z))
 
--- only a grant starts hold turns, and it goes to 7
-enters-7 : (s : Settings) (x : State) (k i : ℕ) → Enters 7 (step s x k i)
-unfolding step
-enters-7 s x k i =
-    or 1 (no-hold refl) (or 2 (swap (x .tail)) (or 3 (no-hold refl) (or 4 (no-hold refl) (or 5 (wait (x .locked i)) (
-    or 7 (look (x .next i)) (or 8 (drain (eqb (x .tail) (suc i))) (or 9 (reread (x .next i)) (no-hold refl))))))))
-  where
-    or : (n : ℕ) {t u : Step State} → Enters 7 t → Enters 7 u → Enters 7 (pick (eqb k n) t u)
-    or n {t} {u} = either (Enters 7) (eqb k n) t u
-
-    swap : (n : ℕ) → Enters 7 (swaps n s x i)
-    swap zero = into refl
-    swap (suc n) = no-hold refl
-
-    wait : (n : ℕ) → Enters 7 (waits n x i)
-    wait zero = into refl
-    wait (suc n) = no-hold refl
-
-    look : (n : ℕ) → Enters 7 (looks n x i)
-    look zero = no-hold refl
-    look (suc n) = no-hold refl
-
-    drain : (b : Bool) → Enters 7 (drains b s x)
-    drain true = no-hold refl
-    drain false = no-hold refl
-
-    reread : (n : ℕ) → Enters 7 (rereads n x i)
-    reread zero = no-hold refl
-    reread (suc n) = no-hold refl
-
 -- ---- who goes on
 
 module _ (s : Settings) (x : State) (at : ℕ → ℕ) where
@@ -319,7 +290,7 @@ queue s = record {
   start = record { nodup = tt; line = (refl, refl); out = λ j f. o1 refl };
   step = λ x at i q g b. one-turn s x at i q g;
   waits = λ x at f r v. first-waits s x at f r v;
-  enters-it = enters-7 s;
+  enters-it = locks.enters-by (mcs-passage s);
   out-goes = out-goes s;
   line-goes = line-goes s;
 }

@@ -2,7 +2,7 @@
 use mathlib.Core.Path.{_≡_, refl, sym, ap, _∙_}
 use mathlib.Core.Logic.{_≢_}
 use mathlib.Core.Bool.{Bool, true, false}
-use Prim.Native.Nat.{ℕ, zero, suc, _+_, _-_}
+use Prim.Native.Nat.{ℕ, _+_, _-_}
 use native.Mathlib.Omega.{arith}
 use borrow.Author.Tests.{ne-eqb, eqb-false}
 use lib.Dec.{eqb, ltb}
@@ -20,6 +20,8 @@ use Rattle.rules.proofs.Known.{found}
 use Rattle.rules.proofs.Store.{either, by-test, false-true}
 use Rattle.laws.specs.Laws.{spins, Steady}
 use Rattle.laws.specs.Slips.{altered, exchanged}
+use Rattle.laws.proofs.Passages as passages
+use Rattle.laws.proofs.Passages.{Ahead, Walks, goes-to, goes-in, ends-it, ticket-waits, ticket-passage, mcs-passage}
 
 -- the step goes on, or it stays and changes nothing
 pub data Calm {S : Type 0} (x : S) (w : Step S) : Type 0 where
@@ -65,42 +67,20 @@ steady m c = steady-by m (λ s x k i. calm (c s x k i))
 
 -- ---- machines
 
-pub ticket-waits-calm : (s : Settings) (x : ticket.State) (b : Bool) → Calm x (ticket.waits b s x)
-ticket-waits-calm s x true = goes-on refl
-ticket-waits-calm s x false = stays refl refl refl
+calm-by : {S : Type 0} {ahead : Ahead} {in-it h : ℕ} {x : S} {w : Step S} {v : ℕ} → Walks ahead in-it h x w v → Calm x w
+calm-by (passages.stays e f n) = stays e n f
+calm-by (goes-to j f n l) = goes-on (ap spins f)
+calm-by (goes-in f n l) = goes-on (ap spins f)
+calm-by (ends-it f n) = goes-on (ap spins f)
 
 pub ticket-calm : AllCalm ticket.machine
-unfolding ticket.step
-ticket-calm s x k i =
-    calm-or (eqb k 1) (goes-on refl) (calm-or (eqb k 2) (ticket-waits-calm s x (eqb (x .release) (x .mine i))) (
-    calm-or (eqb k 3) (goes-on refl) (goes-on refl)))
+ticket-calm s x k i = calm-by (ticket-passage s .walks x k i 0)
+
+pub ticket-waits-calm : (s : Settings) (x : ticket.State) (b : Bool) → Calm x (ticket.waits b s x)
+ticket-waits-calm s x b = calm-by (ticket-waits s x 0 b)
 
 pub mcs-calm : AllCalm mcs.machine
-unfolding mcs.step
-mcs-calm s x k i =
-    calm-or (eqb k 1) (goes-on refl) (calm-or (eqb k 2) (swap (x .tail)) (calm-or (eqb k 3) (goes-on refl) (calm-or (eqb k 4) (goes-on refl) (
-    calm-or (eqb k 5) (wait (x .locked i)) (calm-or (eqb k 7) (look (x .next i)) (calm-or (eqb k 8) (drain (eqb (x .tail) (suc i))) (
-    calm-or (eqb k 9) (reread (x .next i)) (goes-on refl))))))))
-  where
-    swap : (n : ℕ) → Calm x (mcs.swaps n s x i)
-    swap zero = goes-on refl
-    swap (suc n) = goes-on refl
-
-    wait : (n : ℕ) → Calm x (mcs.waits n x i)
-    wait zero = goes-on refl
-    wait (suc n) = stays refl refl refl
-
-    look : (n : ℕ) → Calm x (mcs.looks n x i)
-    look zero = goes-on refl
-    look (suc n) = goes-on refl
-
-    drain : (b : Bool) → Calm x (mcs.drains b s x)
-    drain true = goes-on refl
-    drain false = goes-on refl
-
-    reread : (n : ℕ) → Calm x (mcs.rereads n x i)
-    reread zero = stays refl refl refl
-    reread (suc n) = goes-on refl
+mcs-calm s x k i = calm-by (mcs-passage s .walks x k i 0)
 
 pub central-calm : AllCalm central.machine
 unfolding central.step

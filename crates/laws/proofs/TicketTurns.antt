@@ -9,17 +9,18 @@ use native.Mathlib.Omega.{arith}
 use borrow.Author.Tests.{eq-eqb, ne-eqb}
 use lib.Dec.{eqb}
 use lib.ListN.{length}
-use Rattle.rules.specs.Memory.{pick, upd}
+use Rattle.rules.specs.Memory.{upd}
 use Rattle.rules.specs.Bounds.{mostTicket}
 use Rattle.rules.specs.Settings.{Settings}
 use Rattle.rules.specs.Step.{grant, release, one, said, Step}
 use Rattle.rules.specs.Ticket.{State, up, asks, waits, finds, frees, step, machine}
-use Rattle.rules.proofs.Store.{upd-same, upd-other, zero-suc, either}
+use Rattle.rules.proofs.Store.{upd-same, upd-other, zero-suc}
 use Rattle.rules.proofs.Accepted.{Below}
 use Rattle.laws.specs.Laws.{of, Without, Within, spins}
 use Rattle.laws.proofs.Lists.{Mem, NoDup, Place, outside, first, behind, find, without-init, nodup-snoc, pigeon}
 use Rattle.laws.proofs.Locks as locks
-use Rattle.laws.proofs.Locks.{joins, gets, After, resting, Enters, no-hold, into}
+use Rattle.laws.proofs.Locks.{joins, gets, After, resting}
+use Rattle.laws.proofs.Passages.{ticket-passage}
 
 -- tickets are taken modulo this
 abbrev wrap : ℕ
@@ -250,18 +251,6 @@ module _ (s : Settings) (small : s .procs ≤ mostTicket + 1) (x : State) (at : 
       go (h3 e z) = record { who = a; in-line = inl refl; inside = omega arith; goes = rw e refl }
       go (h4 e z) = record { who = a; in-line = inl refl; inside = omega arith; goes = rw e refl }
 
--- only a grant starts hold turns, and it goes to 3
-enters-3 : (s : Settings) (x : State) (k i : ℕ) → Enters 3 (step s x k i)
-unfolding step
-enters-3 s x k i = or 1 (no-hold refl) (or 2 (wait (eqb (x .release) (x .mine i))) (or 3 (no-hold refl) (no-hold refl)))
-  where
-    or : (n : ℕ) {t u : Step State} → Enters 3 t → Enters 3 u → Enters 3 (pick (eqb k n) t u)
-    or n {t} {u} = either (Enters 3) (eqb k n) t u
-
-    wait : (b : Bool) → Enters 3 (waits b s x)
-    wait true = into refl
-    wait false = no-hold refl
-
 pub ticket : (s : Settings) → s .procs ≤ mostTicket + 1 → s .ticket ≤ mostTicket → locks.Lock machine s
 ticket s small t = record {
   Inv = Inv;
@@ -269,7 +258,7 @@ ticket s small t = record {
   start = record { n = s .ticket; now = omega arith; tickets = omega arith; nodup = tt; line = refl; out = λ j f. refl; kept = λ j e. absurd (omega arith) };
   step = one-turn s small;
   waits = λ x at f r v. first-waits s small x at f r v;
-  enters-it = enters-3 s;
+  enters-it = locks.enters-by (ticket-passage s);
   out-goes = out-goes s small;
   line-goes = line-goes s small;
 }
