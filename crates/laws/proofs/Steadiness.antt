@@ -67,6 +67,7 @@ steady m c = steady-by m (λ s x k i. calm (c s x k i))
 
 -- ---- machines
 
+-- every step of a lock's passage is calm
 calm-by : {S : Type 0} {ahead : Ahead} {in-it h : ℕ} {x : S} {w : Step S} {v : ℕ} → Walks ahead in-it h x w v → Calm x w
 calm-by (passages.stays e f n) = stays e n f
 calm-by (goes-to j f n l) = goes-on (ap spins f)
