@@ -62,12 +62,20 @@ enters-by {m} {s} {in-it = in-it} p x k i = go (p .walks x k i 0)
     go (goes-in f n l) = into f
     go (ends-it f n) = no-hold n
 
--- one of the line q who is at a step that is no spin, and not the first
+-- one of the line q whose step is no spin, and not step 1
 pub record Goes (m : Machine) (s : Settings) (x : m .State) (at : ℕ → ℕ) (q : List ℕ) : Type 0 where
   pub who : ℕ
   pub in-line : Mem who q
   pub inside : at who ≢ 1
   pub goes : spins (m .step s x (at who) who .then) ≡ false
+
+pub first-goes : {m : Machine} {s : Settings} {x : m .State} {at : ℕ → ℕ} {a : ℕ} {r : List ℕ}
+    → at a ≢ 1 → spins (m .step s x (at a) a .then) ≡ false → Goes m s x at (a ∷ r)
+first-goes {a = a} n e = record { who = a; in-line = inl refl; inside = n; goes = e }
+
+pub second-goes : {m : Machine} {s : Settings} {x : m .State} {at : ℕ → ℕ} {a b : ℕ} {r : List ℕ}
+    → at b ≢ 1 → spins (m .step s x (at b) b .then) ≡ false → Goes m s x at (a ∷ b ∷ r)
+second-goes {b = b} n e = record { who = b; in-line = inr (inl refl); inside = n; goes = e }
 
 -- a lock: an invariant of its variables and the processors' steps, kept by every step; a grant goes to the step `in-it`;
 -- the first in line, where nobody holds, is at a step that grants; whoever is in no line goes on, and so does one of every line

@@ -1,6 +1,6 @@
 -- Every step keeps the line of the MCS lock.
 use mathlib.Core.Path.{_≡_, refl, sym, ap, _∙_}
-use mathlib.Core.Logic.{_≢_, inl, inr, Ne·symm}
+use mathlib.Core.Logic.{_≢_, Ne·symm}
 use mathlib.Core.Bool.{Bool, true, false}
 use mathlib.Core.List.{List, [], _∷_, _++_}
 use Prim.Native.Nat.{ℕ, zero, suc}
@@ -267,21 +267,21 @@ module _ (s : Settings) (x : State) (at : ℕ → ℕ) where
       drain false = refl
 
       reread : (n : ℕ) → x .next a ≡ n → at a ≡ 9 → x .tail ≢ suc a → (r : List ℕ) → Chain (view x at) a r → locks.Goes machine s x at (a ∷ r)
-      reread (suc n) h e d r c = record { who = a; in-line = inl refl; inside = omega arith; goes = rw (e, h) refl }
+      reread (suc n) h e d r c = locks.first-goes (omega arith) (rw (e, h) refl)
       reread zero h e d [] c = absurd (d (c .1))
       reread zero h e d (b ∷ r) c = linking (c .0)
         where
           linking : Wait (view x at) a b → locks.Goes machine s x at (a ∷ b ∷ r)
-          linking (w3 f p n) = record { who = b; in-line = inr (inl refl); inside = omega arith; goes = rw f refl }
-          linking (w4 f p n l) = record { who = b; in-line = inr (inl refl); inside = omega arith; goes = rw f refl }
+          linking (w3 f p n) = locks.second-goes (omega arith) (rw f refl)
+          linking (w4 f p n l) = locks.second-goes (omega arith) (rw f refl)
           linking (w5 f n l) = absurd (zero-suc (sym h ∙ n))
 
       head : Head (view x at) a g → locks.Goes machine s x at (a ∷ r)
-      head (h5 e l z) = record { who = a; in-line = inl refl; inside = omega arith; goes = rw (e, l) refl }
-      head (h7 e z) = record { who = a; in-line = inl refl; inside = omega arith; goes = rw e (look (x .next a)) }
-      head (h8 e z) = record { who = a; in-line = inl refl; inside = omega arith; goes = rw e (drain (eqb (x .tail) (suc a))) }
+      head (h5 e l z) = locks.first-goes (omega arith) (rw (e, l) refl)
+      head (h7 e z) = locks.first-goes (omega arith) (rw e (look (x .next a)))
+      head (h8 e z) = locks.first-goes (omega arith) (rw e (drain (eqb (x .tail) (suc a))))
       head (h9 e n z) = reread (x .next a) refl e n r (v .line .1)
-      head (h10 e n z) = record { who = a; in-line = inl refl; inside = omega arith; goes = rw e refl }
+      head (h10 e n z) = locks.first-goes (omega arith) (rw e refl)
 
 pub queue : (s : Settings) → locks.Lock machine s
 queue s = record {

@@ -247,9 +247,9 @@ module _ (s : Settings) (small : s .procs ≤ mostTicket + 1) (x : State) (at : 
   line-goes a r g v = go (v .line .0)
     where
       go : Head at a g → locks.Goes machine s x at (a ∷ r)
-      go (h2 e z) = record { who = a; in-line = inl refl; inside = omega arith; goes = rw (e, eq-eqb _ _ (v .now ∙ sym (v .tickets .0))) refl }
-      go (h3 e z) = record { who = a; in-line = inl refl; inside = omega arith; goes = rw e refl }
-      go (h4 e z) = record { who = a; in-line = inl refl; inside = omega arith; goes = rw e refl }
+      go (h2 e z) = locks.first-goes (omega arith) (rw (e, eq-eqb _ _ (v .now ∙ sym (v .tickets .0))) refl)
+      go (h3 e z) = locks.first-goes (omega arith) (rw e refl)
+      go (h4 e z) = locks.first-goes (omega arith) (rw e refl)
 
 pub ticket : (s : Settings) → s .procs ≤ mostTicket + 1 → s .ticket ≤ mostTicket → locks.Lock machine s
 ticket s small t = record {

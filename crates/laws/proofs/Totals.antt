@@ -55,7 +55,7 @@ pub sum-times : (f g : ℕ → ℕ) (k n : ℕ) → ((i : ℕ) → i < n → f i
 sum-times f g k zero h = omega arith
 sum-times f g k (suc n) h = omega (arith, sum-times f g k n (λ i l. h i (omega arith)), h n (omega arith), mul-add k (sum g n) (g n))
 
--- where no summand is above another's, and at i by d less, the sum is by d less
+-- where no summand of f is above g's the sum is not; and where it is less by d at i, so is the sum
 pub sum-least : (f g : ℕ → ℕ) (n : ℕ) → ((j : ℕ) → j < n → f j ≤ g j) → sum f n ≤ sum g n
 sum-least f g zero h = omega arith
 sum-least f g (suc n) h = omega (arith, sum-least f g n (λ j l. h j (omega arith)), h n (omega arith))
