@@ -67,7 +67,7 @@ sweeps-reached = (refl, more one (more one (more one (more one (more one none)))
 
 pub going : Going
 going = record {
-  lasts = λ m k s. lasts m k s;
+  lasts = lasts;
   steady = machine-steady;
   unstuck = unstuck;
   no-standstill = λ m s t l z. let g = unstuck m s t l (z .who) (z .one-of-them) (z .passages-left) in false-true (sym (g .2) ∙ z .all-wait (g .0) (g .1));

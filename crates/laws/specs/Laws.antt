@@ -124,7 +124,7 @@ pub data ComesNext (k f : ℕ) (es : List Event) : Type 0 where
 
 -- ---- going on
 
--- a spin: the same read again
+-- a spin: a read that has to be made again
 abbrev pub spins : Next → Bool
 spins stay = true
 spins (again k) = true

@@ -33,6 +33,7 @@ pub record Slip : Type 1 where
   pub rest : List ℕ
   pub heard : List Event
 
+-- events by their first letter, as they are printed
 abbrev pub j : ℕ → Event
 j i = event join i
 
