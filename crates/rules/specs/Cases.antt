@@ -90,6 +90,7 @@ all-hold = (refl, (refl, (refl, (refl, (refl, (refl, (refl, (refl, (refl, (refl,
 
 -- the tree barrier: seven processors meet once, which shows both trees; two meet twice; one is alone, with a hold turn.
 -- The ticket lock: while 0 is between the read and the write of its release 1 spins and 2 joins, and the budget stops the run between those of 1.
+-- The dissemination barrier's partners: of five processors 1 alone goes on to the third round and tells 0, which is 4 further on; so 0 can leave.
 -- Too big a number: six and nine digits are read, and are 3 or 4 at the first digit, in every line; where the file ends it is 1, and at a tenth digit too
 unfoldable pub requested : List Case
 requested =
@@ -102,6 +103,8 @@ requested =
     (shows 6 0 0 (p 2 0 0 0 2 ∷ []) (1024 ∷ 1280 ∷ 1024 ∷ 1280 ∷ []))
     ∷ gives (bytes "algo=ticket\nprocs=3\nhome=2\nticket=65535\nbudget=8\np0=1,1\np1=1,0\np2=1,0\nturns=0,0,1,0,0,1,2,0,2,1,1,0,2,1\n")
     (shows 13 1 8 (p 1 4 4 0 1 ∷ p 0 4 4 1 0 ∷ p 0 0 0 2 0 ∷ []) (256 ∷ 512 ∷ 257 ∷ 258 ∷ 768 ∷ 513 ∷ []))
+    ∷ gives (bytes "algo=dissem\nprocs=5\nhome=0\nticket=0\nbudget=16384\np0=1,0\np1=1,0\np2=1,0\np3=1,0\np4=1,0\nturns=0,1,2,3,4,0,1,2,3,4,0,1,2,3,4,0,1,2,3,4,1,0,0\n")
+    (shows 23 0 12 (p 1 3 3 0 0 ∷ p 0 3 3 0 0 ∷ p 0 2 2 0 0 ∷ p 0 2 2 0 0 ∷ p 0 2 2 0 0 ∷ []) (1024 ∷ 1025 ∷ 1026 ∷ 1027 ∷ 1028 ∷ 1280 ∷ []))
     ∷ gives (bytes "algo=mcs\nprocs=999999999\n") (refused 3 15)
     ∷ gives (bytes "algo=mcs\nprocs=1000000000\n") (refused 1 24)
     ∷ gives (bytes "algo=mcs\nprocs=2\nhome=100000\n") (refused 3 22)
@@ -114,5 +117,5 @@ requested =
     ∷ []
 
 pub requested-hold : All requested
-unfolding requested upd remote turn whole play after within taking ticket.step tree.step lit letters word digits number decimalIn decimal rows items turns front rest file.whole file.file inRow inRange allBelow refusal readingOf acceptedRun running
-requested-hold = (refl, (refl, (refl, (refl, (refl, (refl, (refl, (refl, (refl, (refl, (refl, (refl, (refl, tt)))))))))))))
+unfolding requested upd remote turn whole play after within taking ticket.step dissem.step doublings doubled tree.step lit letters word digits number decimalIn decimal rows items turns front rest file.whole file.file inRow inRange allBelow refusal readingOf acceptedRun running
+requested-hold = (refl, (refl, (refl, (refl, (refl, (refl, (refl, (refl, (refl, (refl, (refl, (refl, (refl, (refl, tt))))))))))))))
