@@ -1,5 +1,5 @@
 -- The laws, each by its proof.
-use Rattle.rules.specs.Cases.{all-hold, requested-hold}
+use Rattle.rules.specs.Cases.{all-hold, worked-hold, requested-hold}
 use Rattle.rules.proofs.Plays.{continued}
 use Rattle.rules.proofs.Counts.{within-budget}
 use Rattle.laws.specs.Laws.{Laws}
@@ -22,6 +22,7 @@ use Rattle.laws.proofs.Doubling.{doublings-hold}
 pub all-laws : Laws
 all-laws = record {
   cases = all-hold;
+  worked = worked-hold;
   requested = requested-hold;
   beginnings = record {
     continued = continued;

@@ -23,7 +23,7 @@ use Rattle.rules.specs.Rule.{comma, feed, isDigit}
 use Rattle.rules.specs.File.{decimal, text}
 use Rattle.rules.specs.Calls as calls
 use Rattle.rules.specs.Calls.{allBelow, refusal, Record, Reading, refusedRead, reading, Writing, writing, acceptedRun, running}
-use Rattle.rules.specs.Cases.{All, cases, requested}
+use Rattle.rules.specs.Cases.{All, cases, worked, requested}
 use Rattle.laws.specs.Slips.{Slip, notCleared, linkedFirst, forgotten, lessThan, toggled, untoggled, resetLate, slip1, slip2, slip3, slip4, slip5a, slip5b, slip6}
 
 -- ---- words
@@ -547,6 +547,8 @@ pub record Doublings : Type 0 where
 pub record Laws : Type 1 where
   -- the eleven cases that document 01 marks
   pub cases : All cases
+  -- cases of document 01 that it does not mark, worked out by hand
+  pub worked : All worked
   -- cases of document 02's requests, worked out by hand
   pub requested : All requested
   pub beginnings : Beginnings
