@@ -89,23 +89,28 @@ all-hold = (refl, (refl, (refl, (refl, (refl, (refl, (refl, (refl, (refl, (refl,
 
 -- ---- cases of document 01 that it does not mark, worked out by hand
 
--- the central barrier: three processors meet twice, each spin and each write but the home's a remote reference. The dissemination barrier: one processor alone,
--- with hold turns; three that have met, and one comes again and finds no flag set. The queue lock: each way to release
+-- the central barrier: three processors meet twice, and the last to arrive is the home; two do, and once it is not. The dissemination barrier: one processor
+-- alone, with hold turns; three that have met, and one comes again and finds no flag of the other parity set; two that have met twice, and one comes again
+-- and finds the flag as it was the first time. The queue lock: each way to release
 unfoldable pub worked : List Case
 worked =
     gives (bytes "algo=central\nprocs=3\nhome=2\nticket=0\nbudget=16384\np0=2,0\np1=2,1\np2=2,2\nturns=0,0,1,2,1,2,0,2,0,0,0,1,1,1,2,2,2,2,2,1,0,0,1,1,2,2,2,2\n")
     (shows 28 0 12 (p 2 7 4 3 1 ∷ p 2 5 3 1 1 ∷ p 2 0 0 0 2 ∷ []) (1024 ∷ 1025 ∷ 1026 ∷ 1282 ∷ 1280 ∷ 1024 ∷ 1281 ∷ 1025 ∷ 1026 ∷ 1282 ∷ 1281 ∷ 1280 ∷ []))
+    ∷ gives (bytes "algo=central\nprocs=2\nhome=0\nticket=0\nbudget=16384\np0=2,0\np1=2,0\nturns=0,1,1,0,0,1,1,0,0,0,0,1\n")
+    (shows 12 0 5 (p 2 0 0 2 0 ∷ p 2 5 3 0 0 ∷ []) (1024 ∷ 1025 ∷ 1281 ∷ 1025 ∷ 1280 ∷ 1024 ∷ 1280 ∷ 1281 ∷ []))
     ∷ gives (bytes "algo=dissem\nprocs=1\nhome=0\nticket=0\nbudget=0\np0=2,1\nturns=0,0,0,0,0,0\n")
     (shows 6 0 0 (p 2 0 0 0 2 ∷ []) (1024 ∷ 1280 ∷ 1024 ∷ 1280 ∷ []))
-    ∷ gives (bytes "algo=dissem\nprocs=3\nhome=0\nticket=0\nbudget=16384\np0=2,0\np1=2,0\np2=2,0\nturns=0,1,2,0,1,2,0,1,2,0,1,2,0,0\n")
-    (shows 14 0 7 (p 1 3 2 1 0 ∷ p 1 2 2 0 0 ∷ p 1 2 2 0 0 ∷ []) (1024 ∷ 1025 ∷ 1026 ∷ 1280 ∷ 1281 ∷ 1282 ∷ 1024 ∷ []))
+    ∷ gives (bytes "algo=dissem\nprocs=3\nhome=0\nticket=0\nbudget=16384\np0=2,0\np1=2,0\np2=2,0\nturns=0,1,2,0,1,2,0,1,2,0,1,2,1,1\n")
+    (shows 14 0 7 (p 1 2 2 0 0 ∷ p 1 3 2 1 0 ∷ p 1 2 2 0 0 ∷ []) (1024 ∷ 1025 ∷ 1026 ∷ 1280 ∷ 1281 ∷ 1282 ∷ 1025 ∷ []))
+    ∷ gives (bytes "algo=dissem\nprocs=2\nhome=0\nticket=0\nbudget=16384\np0=3,0\np1=3,0\nturns=0,1,0,1,0,1,0,1,0,0\n")
+    (shows 10 0 5 (p 2 3 1 1 0 ∷ p 2 2 1 0 0 ∷ []) (1024 ∷ 1025 ∷ 1280 ∷ 1281 ∷ 1024 ∷ 1025 ∷ 1280 ∷ 1281 ∷ 1024 ∷ []))
     ∷ gives (bytes "algo=mcs\nprocs=2\nhome=1\nticket=0\nbudget=16384\np0=3,1\np1=2,0\nturns=0,0,0,0,0,0,0,1,1,1,1,1,0,0,0,1,0,1,0,1,1,0,0,0,1,1,0,0,1,0,0,1,1,1,1,0,0\n")
     (shows 37 0 9 (p 3 7 3 1 2 ∷ p 2 2 2 2 1 ∷ []) (256 ∷ 512 ∷ 768 ∷ 256 ∷ 512 ∷ 257 ∷ 768 ∷ 513 ∷ 256 ∷ 769 ∷ 512 ∷ 768 ∷ 257 ∷ 513 ∷ 769 ∷ []))
     ∷ []
 
 pub worked-hold : All worked
 unfolding worked upd remote turn whole play after within taking ticket.step mcs.step central.step dissem.step doublings doubled lit letters word digits number decimalIn decimal rows items turns front rest file.whole file.file inRow inRange allBelow refusal readingOf acceptedRun running
-worked-hold = (refl, (refl, (refl, (refl, tt))))
+worked-hold = (refl, (refl, (refl, (refl, (refl, (refl, tt))))))
 
 -- ---- requests of document 02: cases that were worked out by hand
 
