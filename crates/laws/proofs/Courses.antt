@@ -13,6 +13,7 @@ use Rattle.rules.specs.Settings.{Settings, entry}
 use Rattle.rules.specs.Step.{Kind, join, grant, release, arrive, leave, Says, nothing, one, two, said, Next, stay, again, to, over, Machine}
 use Rattle.rules.specs.Course.{Course, Turn, holds, idles, makes, turn, begins, holding, goes, ends, says, course}
 use Rattle.rules.specs.Play.{Run, next, taking, after, play, whole}
+use Rattle.rules.proofs.Steps.{goes-other, ends-other}
 use Rattle.rules.proofs.Store.{upd-same, upd-other, either, by-test, false-true}
 use Rattle.rules.proofs.Plays.{by-after, by-whole, continued, goes-on, after-taken}
 use Rattle.laws.specs.Laws.{times, GrantOrLeave, Courses}
@@ -40,12 +41,22 @@ starts i (two join l) h = starts-one i l h
 starts i (two release l) h = starts-one i l h
 starts i (two arrive l) h = starts-one i l h
 
+-- j has in d what it has in c
+pub record Alike (c d : Course) (j : ℕ) : Type 0 where
+  pub at-is : d .at j ≡ c .at j
+  pub left-is : d .left j ≡ c .left j
+  pub done-is : d .done j ≡ c .done j
+
 module _ (m : Machine) (s : Settings) where
-  -- a turn of another leaves i's hold turns
-  left-other : (j i : ℕ) (w : Turn (m .State)) (c : Course) → i ≢ j → course s j w c .left i ≡ c .left i
-  left-other j i holds c n = upd-other (c .left) j _ i n
-  left-other j i idles c n = refl
-  left-other j i (makes w) c n = upd-other (c .left) j _ i n
+  -- a turn of another leaves what j has
+  pub alike-other : (i j : ℕ) (w : Turn (m .State)) (c : Course) → j ≢ i → Alike c (course s i w c) j
+  alike-other i j holds c n = record { at-is = refl; left-is = upd-other (c .left) i _ j n; done-is = refl }
+  alike-other i j idles c n = record { at-is = refl; left-is = refl; done-is = refl }
+  alike-other i j (makes w) c n = record {
+    at-is = goes-other (w .then) i (c .at) j n;
+    left-is = upd-other (c .left) i _ j n;
+    done-is = ends-other (w .then) i (c .done) j n;
+  }
 
   -- a turn that says a grant or a leave sets them
   left-set : (i : ℕ) (w : Turn (m .State)) (c : Course) → holding (says w) ≡ true → course s i w c .left i ≡ entry (s .hold) i
@@ -90,7 +101,7 @@ module _ (m : Machine) (s : Settings) where
           omega (arith, rest (omega arith))
         where
           kept : (r : Run (m .State)) → j ≢ i → taking m s r j .course .left i ≡ r .course .left i
-          kept r n = unfold taking in left-other j i (next m s r j) (r .course) (λ z. n (sym z))
+          kept r n = unfold taking in alike-other j i (next m s r j) (r .course) (λ z. n (sym z)) .left-is
 
   held : (t u : List ℕ) (i : ℕ) → GrantOrLeave (said i (says (next m s (whole m s t) i))) → whole m s (t ++ i ∷ u) .stopped ≡ false
       → times i u ≤ entry (s .hold) i → whole m s (t ++ i ∷ u) .course .left i + times i u ≡ entry (s .hold) i
@@ -114,10 +125,7 @@ module _ (m : Machine) (s : Settings) where
   due-step over at done i n h = rw (upd-same at i 1, upd-same done i (done i + 1)) (omega arith, inl refl)
 
   due-other : (x : Next) (at done : ℕ → ℕ) (i j n : ℕ) → j ≢ i → Due (at j) (done j) n → Due (goes x i at j) (ends x i done j) n
-  due-other stay at done i j n d h = h
-  due-other (again k) at done i j n d h = rw (upd-other at i k j d) h
-  due-other (to k) at done i j n d h = rw (upd-other at i k j d) h
-  due-other over at done i j n d h = rw (upd-other at i 1 j d, upd-other done i (done i + 1) j d) h
+  due-other x at done i j n d h = rw (goes-other x i at j d, ends-other x i done j d) h
 
   abbrev pub AllDue : Course → Type 0
   AllDue c = (j : ℕ) → Due (c .at j) (c .done j) (entry (s .rounds) j)

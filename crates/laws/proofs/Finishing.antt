@@ -22,9 +22,9 @@ use Rattle.laws.proofs.Lists.{below-append}
 use Rattle.laws.proofs.Passages.{Walks, stays, goes-to, goes-in, ends-it, Passage}
 use Rattle.laws.proofs.Beginnings.{begins-play}
 use Rattle.laws.proofs.Totals.{sum-less}
-use Rattle.laws.proofs.Courses.{Due, all-due}
+use Rattle.laws.proofs.Courses.{alike-other, Due, all-due}
 use Rattle.laws.proofs.Locks.{Lock, Good, good, good-on}
-use Rattle.laws.proofs.Waiting.{unmoved, alike-other}
+use Rattle.laws.proofs.Waiting.{unmoved}
 use Rattle.laws.proofs.Unstuck.{goer}
 
 pub sweeps-below : {p n : ℕ} {u : List ℕ} → Sweeps p n u → Below p u

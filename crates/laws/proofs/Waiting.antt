@@ -8,35 +8,19 @@ use native.Mathlib.Decide.{ℕ-discrete}
 use native.Mathlib.Omega.{arith}
 use Rattle.rules.specs.Settings.{Settings}
 use Rattle.rules.specs.Step.{Next, stay, again, to, over, Step, Machine}
-use Rattle.rules.specs.Course.{Course, Turn, holds, idles, makes, turn, goes, ends, memory, course}
+use Rattle.rules.specs.Course.{Course, Turn, makes, turn, goes, ends, memory, course}
 use Rattle.rules.specs.Play.{Run, next, taking, after, play, whole}
-use Rattle.rules.proofs.Store.{upd-same, upd-other, false-true}
-use Rattle.rules.proofs.Steps.{goes-other, ends-other}
+use Rattle.rules.proofs.Store.{upd-same, false-true}
 use Rattle.rules.proofs.Accepted.{Below, below}
 use Rattle.rules.proofs.Plays.{by-after, by-turn, continued}
 use Rattle.laws.specs.Laws.{spins, waits, Standstill, Frozen, Steady}
-
--- j has in d what it has in c
-pub record Alike (c d : Course) (j : ℕ) : Type 0 where
-  pub at-is : d .at j ≡ c .at j
-  pub left-is : d .left j ≡ c .left j
-  pub done-is : d .done j ≡ c .done j
+use Rattle.laws.proofs.Courses.{Alike, alike-other}
 
 module _ (m : Machine) (s : Settings) where
   -- a turn goes by the memory and by what its processor has
   turn-is : (x y : m .State) (c d : Course) (j : ℕ) → y ≡ x → Alike c d j → turn m s y d j ≡ turn m s x c j
   unfolding turn
   turn-is x y c d j e a = rw (e, a .left-is, a .at-is, a .done-is) refl
-
-  -- a turn of another leaves what j has
-  pub alike-other : (i j : ℕ) (w : Turn (m .State)) (c : Course) → j ≢ i → Alike c (course s i w c) j
-  alike-other i j holds c n = record { at-is = refl; left-is = upd-other (c .left) i _ j n; done-is = refl }
-  alike-other i j idles c n = record { at-is = refl; left-is = refl; done-is = refl }
-  alike-other i j (makes w) c n = record {
-    at-is = goes-other (w .then) i (c .at) j n;
-    left-is = upd-other (c .left) i _ j n;
-    done-is = ends-other (w .then) i (c .done) j n;
-  }
 
 -- a spin is no end of a passage
 no-end : (n : Next) (i : ℕ) (done : ℕ → ℕ) → spins n ≡ true → ends n i done ≡ done
