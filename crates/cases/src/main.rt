@@ -2,6 +2,8 @@
 // Numbers: how many cases; for each the room for events, the records that are lent, the settings, the number of turns, and a row that is
 // said over and over until there are that many. `touched` and `not bare` are printed where a run broke what document 01 says of lent
 // memory and refusals.
+#![tactic(auto)]
+
 mod input;
 mod lines;
 mod trial;

@@ -8,14 +8,14 @@ ghost use Rattle.central.specs.CentralView.{gate_of, state_of, course_in};
 use turns::{Course, Due, Made, made};
 
 // The count and the sense, and each processor's local sense. True is 1.
-#[derive(Drop)]
+#[derive(Clone, Copy)]
 pub(crate) struct Gate {
     count: u16,
     sense: u8,
     local: [u8; 64],
 }
 
-#[derive(Drop)]
+#[derive(Clone, Copy)]
 pub(crate) struct Central {
     course: Course,
     gate: Gate,

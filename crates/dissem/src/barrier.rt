@@ -9,14 +9,14 @@ use turns::{Course, Due, Made, bit, made, with_bit};
 
 // flags: of each processor its flags, variable v as bit v. own: its round * 4 + parity * 2 + sense.
 // gap: always 0. A number between two rows keeps them from being copied as one.
-#[derive(Drop)]
+#[derive(Clone, Copy)]
 pub(crate) struct Flags {
     flags: [u16; 64],
     gap: u16,
     own: [u8; 64],
 }
 
-#[derive(Drop)]
+#[derive(Clone, Copy)]
 pub(crate) struct Dissem {
     flags: Flags,
     course: Course,

@@ -195,6 +195,7 @@ module _ (m : Machine) (s : Settings) (steps in_it : ℕ) (p : Passage m s steps
           → (i : ℕ) → i < s.procs → (play m s u r).course.done i < entry s.rounds i → Fit (play m s u r) × (all r + n ≤ all (play m s u r))
       unfolding play
       sweeps_gain zero [] none r w f e i b h = (f, omega arith)
+      sweeps_gain zero (_ ∷ _) x14 r w f e i b h = elim x14 [ ]
       sweeps_gain (suc n) u (more {t = t} {u = v} a rest) r w f e i b h =
           let bt = below s.procs t a.no_others in
           let q : Run m.State = play m s t r in

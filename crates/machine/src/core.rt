@@ -7,7 +7,7 @@ use settings::{ACCEPTED, CENTRAL, DISSEM, MCS, Settings, TICKET, TOO_SHORT, refu
 use turns::Played;
 
 // count: how many records there are to write. sums: six numbers for each processor.
-#[derive(Drop)]
+#[derive(Clone, Copy)]
 pub(crate) struct Outcome {
     pub(crate) number: u8,
     pub(crate) turns: usize,

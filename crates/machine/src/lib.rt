@@ -1,4 +1,6 @@
 // The run over a schedule.
+#![tactic(auto)]
+
 mod core;
 mod running;
 mod table;

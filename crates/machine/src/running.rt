@@ -8,7 +8,7 @@ use crate::table::{Answer, Record, answer_of, fill};
 use settings::Settings;
 
 // What a run over a table that was handed over gives: the answer, and the table.
-#[derive(Drop)]
+#[derive(Clone, Copy)]
 pub struct Tallied {
     pub answer: Answer,
     pub table: [Record; 64],

@@ -5,7 +5,7 @@ ghost use Rattle.machine.specs.RunView.{record_from, answer_from, filled};
 use crate::core::Outcome;
 
 // Passages done, remote references, the most in any one passage begun, spins, idle turns.
-#[derive(Drop)]
+#[derive(Clone, Copy)]
 pub struct Record {
     pub done: u16,
     pub remote: u16,
@@ -15,7 +15,7 @@ pub struct Record {
 }
 
 // number: of the refusal, 0 for none. turns: taken. stop: 0 schedule used up, 1 budget. events: how many. total: of remote references.
-#[derive(Drop)]
+#[derive(Clone, Copy)]
 pub struct Answer {
     pub number: u8,
     pub turns: usize,

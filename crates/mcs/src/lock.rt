@@ -7,7 +7,7 @@ ghost use Rattle.mcs.specs.McsView.{nodes_of, state_of, course_in, Sound};
 use turns::{Course, Due, Made, made};
 
 // Each processor's next and locked, and what it keeps for itself. In next, nil is 0 and processor q is q + 1; in locked, true is 1.
-#[derive(Drop)]
+#[derive(Clone, Copy)]
 pub(crate) struct Nodes {
     next: [u8; 64],
     locked: [u8; 64],
@@ -16,7 +16,7 @@ pub(crate) struct Nodes {
 }
 
 // tail is nil or a processor, as in next.
-#[derive(Drop)]
+#[derive(Clone, Copy)]
 pub(crate) struct Mcs {
     nodes: Nodes,
     tail: u16,

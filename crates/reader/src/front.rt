@@ -7,7 +7,7 @@ use settings::{LEAST_PROCS, MOST_BUDGET, MOST_PROCS, MOST_TICKET};
 use tokens::{Step, Value, field, label, name};
 
 // What they say.
-#[derive(Drop)]
+#[derive(Clone, Copy)]
 pub(crate) struct Head {
     pub(crate) algo: u16,
     pub(crate) procs: u16,
@@ -17,7 +17,7 @@ pub(crate) struct Head {
 }
 
 // The five, and the place after them; or a refusal.
-#[derive(Drop)]
+#[derive(Clone, Copy)]
 pub(crate) enum Opened {
     Good(Head, usize),
     Faulty(u8, usize),

@@ -1,4 +1,6 @@
 // The settings file, read into the settings record and the schedule.
+#![tactic(auto)]
+
 mod front;
 mod lines;
 mod reading;

@@ -11,14 +11,14 @@ use settings::{MOST_HOLD, MOST_PROCS, MOST_ROUNDS};
 use tokens::{Step, Value, label, ranged};
 
 // A processor's rounds and hold, and the place after its line; or a refusal.
-#[derive(Drop)]
+#[derive(Clone, Copy)]
 pub(crate) enum Pair {
     Of(u16, u16, usize),
     Wrong(u8, usize),
 }
 
 // The place after the lines, and the two rows; or a refusal.
-#[derive(Drop)]
+#[derive(Clone, Copy)]
 pub(crate) struct Rows {
     pub(crate) step: Step,
     pub(crate) rounds: [u16; MOST_PROCS],

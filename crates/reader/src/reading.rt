@@ -13,7 +13,7 @@ use settings::{ACCEPTED, MOST_PROCS, MOST_TURNS, Settings, TOO_SHORT};
 use tokens::{MALFORMED, Step, Value, label};
 
 // The number of refusal and its place; or 0, place 0, the settings and the count of turns.
-#[derive(Drop)]
+#[derive(Clone, Copy)]
 pub struct ReadAnswer {
     pub number: u8,
     pub place: usize,

@@ -8,7 +8,7 @@ const WIDTH: usize = 6;
 
 // What is said of a file before its bytes: the schedule's room, and the lengths of the parts. The row is said over and over until the
 // middle is full.
-#[derive(Drop)]
+#[derive(Clone, Copy)]
 pub(crate) struct Parts {
     pub(crate) room: usize,
     pub(crate) head: usize,

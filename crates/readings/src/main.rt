@@ -2,6 +2,8 @@
 // The input: how many files; for each five numbers (the schedule's room, and the lengths of head, row, middle and tail), then the bytes
 // of head, row and tail, and a line feed. `touched` and `not bare` are printed where a reading broke what document 01 says of the lent
 // schedule and of refusals, and `not back` where an accepted file is not written as it was read.
+#![tactic(auto)]
+
 mod back;
 mod input;
 mod lines;

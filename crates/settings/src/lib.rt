@@ -1,4 +1,6 @@
 // The settings record, and the one check of settings and schedule that write and run share.
+#![tactic(auto)]
+
 ghost use Rattle.std.specs.Prelude.{◌≡◌};
 ghost use Rattle.rules.specs.Machines.{numbered, known};
 ghost use Rattle.rules.specs.Calls.{in_row, in_range, all_below};
@@ -44,7 +46,7 @@ pub const TOO_MANY: u8 = 5;
 pub const TOO_SHORT: u8 = 6;
 
 // The types are wider than the bounds, so that every refusal can be given.
-#[derive(Drop)]
+#[derive(Clone, Copy)]
 pub struct Settings {
     pub algo: u16,
     pub procs: u16,

@@ -7,7 +7,7 @@ ghost use Rattle.ticket.specs.TicketView.{lock_of, state_of, course_in};
 use turns::{Course, Due, Made, made};
 
 // Both counters, and what each processor keeps for itself: its ticket, and what it found in the release counter.
-#[derive(Drop)]
+#[derive(Clone, Copy)]
 pub(crate) struct Lock {
     mine: [u16; 64],
     found: [u16; 64],
@@ -15,7 +15,7 @@ pub(crate) struct Lock {
     release: u16,
 }
 
-#[derive(Drop)]
+#[derive(Clone, Copy)]
 pub(crate) struct Ticket {
     lock: Lock,
     course: Course,

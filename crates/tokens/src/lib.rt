@@ -1,4 +1,6 @@
 // A label, a name or a number, read at a place of a file.
+#![tactic(auto)]
+
 mod names;
 mod numbers;
 mod places;

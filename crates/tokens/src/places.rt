@@ -7,21 +7,21 @@ ghost use Rattle.tokens.specs.TokenView.{step_of};
 pub const MALFORMED: u8 = 1;
 
 // The place to read on from; or a refusal, by its number and place.
-#[derive(Drop)]
+#[derive(Clone, Copy)]
 pub enum Step {
     At(usize),
     No(u8, usize),
 }
 
 // A number, the separator that ended it and the place after that; or a refusal.
-#[derive(Drop)]
+#[derive(Clone, Copy)]
 pub enum Numeral {
     Read(usize, u8, usize),
     Bad(u8, usize),
 }
 
 // A value and the place after it; or a refusal.
-#[derive(Drop)]
+#[derive(Clone, Copy)]
 pub enum Value {
     Is(usize, usize),
     Not(u8, usize),

@@ -27,12 +27,12 @@ const SENSE: u8 = 1;
 
 const FLAGS: u8 = 2;
 
-#[derive(Drop)]
+#[derive(Clone, Copy)]
 pub(crate) struct Nodes {
     words: [u16; 64],
 }
 
-#[derive(Drop)]
+#[derive(Clone, Copy)]
 pub(crate) struct Tree {
     nodes: Nodes,
     course: Course,

@@ -6,7 +6,7 @@ ghost use Rattle.turns.specs.View.{course_of, holds, held, gone_to, ended, Dues}
 
 // at: the step, and HOLDS more where hold turns come first. left: how many of these follow the next one.
 // gap is 0. It parts the rows: the compiler then copies only those that a turn changes.
-#[derive(Drop)]
+#[derive(Clone, Copy)]
 pub struct Course {
     done: [u16; 64],
     gap: u8,
@@ -15,7 +15,7 @@ pub struct Course {
 }
 
 // What a processor's next turn is: a hold turn, an idle turn, or this step.
-#[derive(Drop)]
+#[derive(Clone, Copy)]
 pub enum Due {
     Hold,
     Idle,

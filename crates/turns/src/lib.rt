@@ -1,4 +1,6 @@
 // What every machine's turn and run are made of: the course of a processor, what a turn tells, and how it is counted.
+#![tactic(auto)]
+
 mod bits;
 mod counts;
 mod course;

@@ -1,7 +1,7 @@
 // What a run over a schedule gives, in plain numbers.
 
 // taken: turns. events: how many. sums: six numbers for each processor.
-#[derive(Drop)]
+#[derive(Clone, Copy)]
 pub struct Played {
     pub stop: u8,
     pub taken: usize,
@@ -11,7 +11,7 @@ pub struct Played {
 }
 
 // Why the run ended, and after how many turns.
-#[derive(Drop)]
+#[derive(Clone, Copy)]
 pub struct End {
     pub stop: u8,
     pub taken: usize,

@@ -1,4 +1,6 @@
 // The settings file, written from the settings record and the schedule.
+#![tactic(auto)]
+
 mod lengths;
 mod names;
 mod putting;

@@ -6,7 +6,7 @@ ghost use Rattle.writer.specs.PutView.{NameIs, name_text};
 use settings::{CENTRAL, DISSEM, MCS, TICKET};
 
 // The first count of the letters are the name.
-#[derive(Drop)]
+#[derive(Clone, Copy)]
 pub(crate) struct Name {
     pub(crate) letters: [u8; 8],
     pub(crate) count: usize,

@@ -7,7 +7,7 @@ use crate::putting::put_file;
 use settings::{ACCEPTED, Settings, TOO_SHORT, refused_by};
 
 // count: how many bytes were written.
-#[derive(Drop)]
+#[derive(Clone, Copy)]
 pub struct Written {
     pub number: u8,
     pub count: usize,
