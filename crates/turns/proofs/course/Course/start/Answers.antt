@@ -1,13 +1,7 @@
 -- `turns::course::Course::start` meets its contract.
 use Rattle.rules.proofs.Views.{view_blank}
 use Rattle.turns.proofs.Courses.{same_course, first_steps, first_lefts}
-use Rattle.turns.proofs.course.Course.start.Statement.{statement}
-use Rattle.turns.proofs.course.Course.start.Tie as tie
+use Rattle.turns.proofs.course.Course.start.Goals as goal
 
-returns : tie.Need-returns
+pub returns : goal.returns
 returns c = same_course _ _ (first_steps 64) (first_lefts 64) (view_blank 64 0)
-
-pub start_spec : {M : Type 1} → statement M
-start_spec =
-    tie.close
-    (tie.spec returns)
