@@ -1,5 +1,5 @@
 // A run over plain numbers: refusals, the machine that the settings name, its numbers. The table is filled afterwards.
-ghost use Rattle.core.specs.Prelude.{◌≡◌, replicate};
+ghost use Rattle.std.specs.Prelude.{◌≡◌, replicate};
 ghost use Rattle.settings.specs.View.{settings_of};
 ghost use Rattle.machine.specs.RunView.{OutcomeIs};
 
