@@ -3,9 +3,6 @@ use borrow.Author.Rules.{rules}
 use Rattle.writer.proofs.Counted.{rows_none, rows_more, rows_long}
 use Rattle.writer.proofs.lengths.rows_length.Goals as goal
 
-pub loop-i-init : goal.loop-i-init
-loop-i-init c = (search rules, search rules, search rules, search rules, search rules, search rows_none)
-
 pub loop-i-preserved : goal.loop-i-preserved
 loop-i-preserved c = (search rules, search rules, search rules, search rules, search rules, search rows_more)
 

@@ -6,11 +6,5 @@ use Rattle.writer.proofs.lengths.turns_length.Goals as goal
 pub returns-then-turns-eq0 : goal.returns-then-turns-eq0
 returns-then-turns-eq0 c = search turns_one
 
-pub loop-i-init : goal.loop-i-init
-loop-i-init c = (search rules, search rules, search rules, search turns_none)
-
-pub loop-i-preserved : goal.loop-i-preserved
-loop-i-preserved c = (search rules, search rules, search rules, search turns_more)
-
 pub returns : goal.returns
 returns c = search turns_long

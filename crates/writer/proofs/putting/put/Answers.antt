@@ -3,9 +3,6 @@ use borrow.Author.Rules.{rules}
 use Rattle.writer.proofs.Puts.{copy_start, copy_next, copy_end}
 use Rattle.writer.proofs.putting.put.Goals as goal
 
-pub loop-i-init : goal.loop-i-init
-loop-i-init c = (search rules, search rules, search rules, search copy_start)
-
 pub loop-i-preserved : goal.loop-i-preserved
 loop-i-preserved c = (search rules, search rules, search rules, search copy_next)
 

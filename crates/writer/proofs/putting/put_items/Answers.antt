@@ -9,9 +9,6 @@ put_byte-requires c = search none_room
 pub returns-then-n-eq0 : goal.returns-then-n-eq0
 returns-then-n-eq0 c = search none_done
 
-pub loop-i-init : goal.loop-i-init
-loop-i-init c = (search rules, search rules, search rules, search rules, search turns_start)
-
 pub put_number-p-requires : goal.put_number-p-requires
 put_number-p-requires c = search turns_room
 

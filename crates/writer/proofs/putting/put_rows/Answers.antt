@@ -3,9 +3,6 @@ use borrow.Author.Rules.{rules}
 use Rattle.writer.proofs.Left.{rows_start, rows_room, rows_next, rows_done}
 use Rattle.writer.proofs.putting.put_rows.Goals as goal
 
-pub loop-i-init : goal.loop-i-init
-loop-i-init c = (search rules, search rules, search rules, search rules, search rules, search rows_start)
-
 pub put_entries-p-requires : goal.put_entries-p-requires
 put_entries-p-requires c = search rows_room
 
