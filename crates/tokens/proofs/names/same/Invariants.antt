@@ -1,0 +1,14 @@
+-- `tokens::names::same` meets its contract.
+use borrow.Author.Rules.{rules}
+use Prim.Native.Nat.{◌-◌}
+use mathlib.Core.Path.{◌≡◌}
+use lib.ListN.{length, drop}
+use Rattle.rules.specs.Machines.{same}
+use Rattle.tokens.proofs.Spelling.{same_ends, same_less, same_more, same_not, same_on}
+use Rattle.tokens.proofs.names.same.Given as goal
+
+abbrev pub invariant-loop-i : goal.invariant-loop-i
+invariant-loop-i l = same l.a l.b ≡ same (drop l.i l.a) (drop l.i l.b)
+
+abbrev pub decreases-loop-i : goal.decreases-loop-i
+decreases-loop-i l = length l.a - l.i
