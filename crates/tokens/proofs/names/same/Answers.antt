@@ -7,17 +7,8 @@ use Rattle.rules.specs.Machines.{same}
 use Rattle.tokens.proofs.Spelling.{same_ends, same_less, same_more, same_not, same_on}
 use Rattle.tokens.proofs.names.same.Goals as goal
 
-pub returns-then-b-i : goal.returns-then-b-i
-returns-then-b-i c = search same_ends
-
 pub returns-then-a-i : goal.returns-then-a-i
 returns-then-a-i c = search same_less
 
 pub returns-then-b-i-2 : goal.returns-then-b-i-2
 returns-then-b-i-2 c = search same_more
-
-pub returns-then-a-i-2 : goal.returns-then-a-i-2
-returns-then-a-i-2 c = search same_not
-
-pub loop-i-preserved : goal.loop-i-preserved
-loop-i-preserved c = search same_on

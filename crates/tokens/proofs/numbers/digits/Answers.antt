@@ -8,9 +8,6 @@ use Rattle.rules.specs.Rule.{digits}
 use Rattle.tokens.proofs.Numerals.{digits_short, digits_a, digits_b, digits_full, digits_low, digits_high, digits_on, below_times, below_sum, below_next}
 use Rattle.tokens.proofs.numbers.digits.Goals as goal
 
-pub loop-p-init : goal.loop-p-init
-loop-p-init c = (search rules, search rules, refl)
-
 pub returns-then-file-p : goal.returns-then-file-p
 returns-then-file-p c = search digits_short
 
@@ -28,12 +25,6 @@ returns-then-x-lt48 c = search digits_low
 
 pub returns-then-x-gt57 : goal.returns-then-x-gt57
 returns-then-x-gt57 c = search digits_high
-
-pub overflow_mul-n : goal.overflow_mul-n
-overflow_mul-n c = search below_times
-
-pub overflow_add-n : goal.overflow_add-n
-overflow_add-n c = search below_sum
 
 pub loop-p-preserved : goal.loop-p-preserved
 loop-p-preserved c = (search rules, search below_next, search digits_on)

@@ -7,9 +7,6 @@ use Rattle.rules.specs.Rule.{lit}
 use Rattle.tokens.proofs.Stepping.{lit_end, lit_short, lit_no, lit_yes}
 use Rattle.tokens.proofs.places.label.Goals as goal
 
-pub loop-i-init : goal.loop-i-init
-loop-i-init c = (search rules, refl)
-
 pub returns-then-file-p : goal.returns-then-file-p
 returns-then-file-p c = search lit_short
 
