@@ -1,11 +1,5 @@
 -- `tokens::names::word` meets its contract. The loop keeps: the whole word is what is left of it after the letters so far.
 use borrow.Author.Rules.{rules}
-use Prim.Native.Nat.{◌<◌}
-use mathlib.Core.Path.{◌≡◌}
-use lib.ListN.{drop}
-use Rattle.rules.specs.Bounds.{most_letters}
-use Rattle.rules.specs.Rule.{letters, word}
-use Rattle.tokens.specs.TokenView.{part}
 use Rattle.tokens.proofs.Spelling.{word_short, word_low, word_high, word_starts, letters_short, letters_end, letters_full, letters_low, letters_high, letters_on}
 use Rattle.tokens.proofs.names.word.Goals as goal
 

@@ -1,11 +1,6 @@
 -- `tokens::numbers::digits` meets its contract. The loop keeps: the whole is what is left after the digits so far.
 use borrow.Author.Rules.{rules}
-use Prim.Native.Nat.{◌-◌, ◌^◌, ◌<◌}
-use mathlib.Core.Path.{◌≡◌, refl}
-use lib.ListN.{drop}
-use Rattle.rules.specs.Bounds.{most_digits}
-use Rattle.rules.specs.Rule.{digits}
-use Rattle.tokens.proofs.Numerals.{digits_short, digits_a, digits_b, digits_full, digits_low, digits_high, digits_on, below_times, below_sum, below_next}
+use Rattle.tokens.proofs.Numerals.{digits_short, digits_a, digits_b, digits_full, digits_low, digits_high, digits_on, below_next}
 use Rattle.tokens.proofs.numbers.digits.Goals as goal
 
 pub returns-then-file-p : goal.returns-then-file-p

@@ -1,5 +1,4 @@
 -- `tokens::numbers::number` meets its contract.
-use borrow.Author.Rules.{rules}
 use Rattle.tokens.proofs.Numerals.{number_short, number_low, number_high, number_zero, number_more}
 use Rattle.tokens.proofs.numbers.number.Goals as goal
 

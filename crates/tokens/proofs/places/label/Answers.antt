@@ -1,9 +1,5 @@
 -- `tokens::places::label` meets its contract. The loop keeps: the whole label at its place is what is left of it here.
 use borrow.Author.Rules.{rules}
-use Prim.Native.Nat.{◌≤◌, ◌-◌}
-use mathlib.Core.Path.{◌≡◌, refl}
-use lib.ListN.{length, drop}
-use Rattle.rules.specs.Rule.{lit}
 use Rattle.tokens.proofs.Stepping.{lit_end, lit_short, lit_no, lit_yes}
 use Rattle.tokens.proofs.places.label.Goals as goal
 
