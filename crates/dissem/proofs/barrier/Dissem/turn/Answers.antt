@@ -1,20 +1,19 @@
 -- `dissem::barrier::Dissem::turn` meets its contract: each return is one way that a turn goes.
 use borrow.Author.Rules.{rules}
 use mathlib.Core.Path.{◌≡◌, refl, sym, ap, ◌∙◌}
-use native.Mathlib.Omega.{arith}
-use Rattle.rules.proofs.Views.{Place, view_at}
-use Rattle.turns.specs.View.{course_of, told_of}
-use Rattle.turns.proofs.Courses.{held_some}
-use Rattle.turns.proofs.Turning.{told_none}
-use Rattle.dissem.proofs.DissemFlags.{read_flag, read_sense}
-use Rattle.dissem.proofs.DissemTurns.{Here, round<6, round<R, dissem_holds, dissem_idles, dissem_alone, dissem_tells, dissem_spins, dissem_goes_on, dissem_leaves}
 use Prim.Native.Nat.{ℕ, ◌≤◌, ◌<◌}
+use native.Mathlib.Omega.{arith}
 use Rattle.rules.specs.Course.{Course}
 use Rattle.rules.specs.Dissem.{State, doublings}
+use Rattle.rules.proofs.Views.{Place, view_at}
+use Rattle.turns.specs.View.{course_of, told_of, Dues}
 use Rattle.turns.specs.declared.course.Due.{Due}
 use Rattle.turns.specs.declared.course.Due.TheVariants as due
-use Rattle.turns.specs.View.{Dues}
+use Rattle.turns.proofs.Courses.{held_some}
+use Rattle.turns.proofs.Turning.{told_none}
 use Rattle.dissem.specs.DissemView.{Sound}
+use Rattle.dissem.proofs.DissemFlags.{read_flag, read_sense}
+use Rattle.dissem.proofs.DissemTurns.{Here, round<6, round<R, dissem_holds, dissem_idles, dissem_alone, dissem_tells, dissem_spins, dissem_goes_on, dissem_leaves}
 use Rattle.dissem.proofs.barrier.Dissem.turn.Goals as goal
 
 -- a step of the passage, as the laws take it

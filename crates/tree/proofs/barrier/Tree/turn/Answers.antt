@@ -1,24 +1,22 @@
 -- `tree::barrier::Tree::turn` meets its contract: each return is one way that a turn goes.
 use borrow.Author.Rules.{rules}
 use mathlib.Core.Path.{◌≡◌, refl, sym, ap, ◌∙◌}
-use Prim.Native.Nat.{◌≤◌}
-use native.Mathlib.Omega.{arith}
-use Rattle.rules.proofs.Views.{Place}
-use Rattle.turns.specs.View.{course_of, told_of}
-use Rattle.turns.proofs.Courses.{held_some}
-use Rattle.turns.proofs.Turning.{told_none}
-use Rattle.tree.proofs.TreeNodes.{flag_set, flag_clear, wake_is, sense_is}
-use Rattle.tree.proofs.TreeTurns.{Here, here_stands, early, sets<, wakes<, left<, looks<, tree_holds, tree_idles, tree_sets, tree_tells, tree_sleeps, tree_wakes, tree_left, tree_right, tree_looks, tree_spins}
 use mathlib.Core.Logic.{◌≢◌}
-use Prim.Native.Nat.{ℕ}
+use Prim.Native.Nat.{◌≤◌, ℕ}
+use native.Mathlib.Omega.{arith}
 use lib.Dec.{eqb, ltb}
 use Rattle.rules.specs.Memory.{pick}
 use Rattle.rules.specs.Course.{Course}
 use Rattle.rules.specs.Tree.{child}
+use Rattle.rules.proofs.Views.{Place}
+use Rattle.turns.specs.View.{course_of, told_of, Dues}
 use Rattle.turns.specs.declared.course.Due.{Due}
 use Rattle.turns.specs.declared.course.Due.TheVariants as due
-use Rattle.turns.specs.View.{Dues}
+use Rattle.turns.proofs.Courses.{held_some}
+use Rattle.turns.proofs.Turning.{told_none}
 use Rattle.tree.specs.TreeView.{Sound}
+use Rattle.tree.proofs.TreeNodes.{flag_set, flag_clear, wake_is, sense_is}
+use Rattle.tree.proofs.TreeTurns.{Here, here_stands, early, sets<, wakes<, left<, looks<, tree_holds, tree_idles, tree_sets, tree_tells, tree_sleeps, tree_wakes, tree_left, tree_right, tree_looks, tree_spins}
 use Rattle.tree.proofs.barrier.Tree.turn.Goals as goal
 
 -- a step of the passage, as the laws take it
