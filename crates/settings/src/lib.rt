@@ -68,6 +68,7 @@ fn known(algo: u16) -> bool
 }
 
 // Whether each entry of a row is at most the bound below procs, and zero from procs on.
+#[tactic(auto, using(crate::proofs::Checks::rows))]
 fn in_row(row: [u16; MOST_PROCS], procs: u16, most: u16) -> bool
     ensures { result ≡ in_row procs most 0 row }
 {
@@ -89,6 +90,7 @@ fn in_row(row: [u16; MOST_PROCS], procs: u16, most: u16) -> bool
 }
 
 // Whether every setting but algo is within its bounds.
+#[tactic(auto, using(crate::proofs::Checks::ranges))]
 fn in_range(s: Settings) -> bool
     ensures { result ≡ in_range (settings_of s) }
 {
@@ -116,6 +118,7 @@ fn in_range(s: Settings) -> bool
 }
 
 // Whether every turn names a processor below procs.
+#[tactic(auto, using(crate::proofs::Checks::turns))]
 fn all_below(procs: u16, schedule: &[u16]) -> bool
     ensures { result ≡ all_below procs schedule.now }
 {
@@ -130,6 +133,7 @@ fn all_below(procs: u16, schedule: &[u16]) -> bool
 }
 
 // The number of refusal, in the order 2, 3, 5, 4; 0 for none. Whether there is room is the caller's to judge.
+#[tactic(auto, using(crate::proofs::Checks::numbers))]
 pub fn refused_by(s: Settings, schedule: &[u16]) -> u8
     ensures { Checked s schedule.now result }
 {

@@ -52,6 +52,8 @@ module _ (n : ℕ) where
   pub digits_5 : 10000 ≤ n → Fits w16 n → Long (decimal n) 5 5
   digits_5 l f = record { is = sym (five_digits n l (omega (arith, f.fits))); few = omega arith }
 
+pub ruleset digits = (digits_1, digits_2, digits_3, digits_4, digits_5)
+
 -- ---- the processors' lines
 
 line_length : (l a b : List ℕ) (x y : ℕ) → length (112 ∷ ((l ++ 61 ∷ []) ++ ((a ++ x ∷ []) ++ (b ++ y ∷ [])))) ≡ length l + length a + length b + 4

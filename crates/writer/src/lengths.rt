@@ -13,6 +13,7 @@ use settings::{MOST_PROCS, Settings};
 const FIXED: usize = 41;
 
 // How many digits a number has.
+#[tactic(auto, using(crate::proofs::Counted::digits))]
 fn digits_of(n: u16) -> usize
     ensures { Long (decimal n) 5 result }
 {

@@ -22,6 +22,7 @@ fn put(out: &mut [u8], at: usize, t: &[u8]) -> usize
     at + i
 }
 
+#[tactic(auto, using(crate::proofs::Puts::one_byte))]
 fn put_byte(out: &mut [u8], at: usize, b: u8) -> usize
     requires { Room (b ∷ []) out.old at }
     ensures { Put (b ∷ []) out.old at out.new result }

@@ -14,6 +14,7 @@ pub struct Written {
 }
 
 // Nothing is written before the file is known to fit.
+#[tactic(auto, using(crate::proofs::Writes::write_refused))]
 pub fn write(s: Settings, schedule: &[u16], out: &mut [u8]) -> Written
     ensures { WriteIs (settings_of s) schedule.now out.old out.new result }
 {

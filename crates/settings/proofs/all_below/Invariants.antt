@@ -1,10 +1,8 @@
 -- `settings::all_below` meets its contract. The invariant: the test of what is left is the test of all. Assumes nothing.
-use borrow.Author.Rules.{rules}
 use mathlib.Core.Path.{◌≡◌}
 use Prim.Native.Nat.{◌-◌, ◌≤◌}
 use lib.ListN.{length, drop}
 use Rattle.rules.specs.Calls.{all_below}
-use Rattle.settings.proofs.Checks.{turns}
 use Rattle.settings.proofs.all_below.Given as goal
 
 abbrev pub invariant-loop-k : goal.invariant-loop-k

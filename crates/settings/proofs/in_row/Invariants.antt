@@ -1,12 +1,9 @@
 -- `settings::in_row` meets its contract. The invariant: the test of what is left is the test of all. Assumes nothing.
-use borrow.Author.Rules.{rules}
-use mathlib.Core.Logic.{⊎_elim}
 use mathlib.Core.Path.{◌≡◌}
 use Prim.Native.Nat.{◌-◌, ◌≤◌}
 use lib.ListN.{length, drop}
 use Rattle.rules.specs.Bounds.{most_procs}
 use Rattle.rules.specs.Calls.{in_row}
-use Rattle.settings.proofs.Checks.{rows}
 use Rattle.settings.proofs.in_row.Given as goal
 
 abbrev pub invariant-loop-i : goal.invariant-loop-i

@@ -1,6 +1,6 @@
 -- `writer::putting::put` meets its contract.
 use borrow.Author.Rules.{rules}
-use Rattle.writer.proofs.Puts.{copy_start, copy_next, copy_end}
+use Rattle.writer.proofs.Puts.{copy_next, copy_end}
 use Rattle.writer.proofs.putting.put.Goals as goal
 
 pub loop-i-preserved : goal.loop-i-preserved

@@ -1,5 +1,5 @@
 -- `writer::putting::put_entries` meets its contract.
-use Rattle.writer.proofs.Puts.{room_first, room_second, room_third, put_third}
+use Rattle.writer.proofs.Puts.{put_third}
 use Rattle.writer.proofs.putting.put_entries.Goals as goal
 
 pub returns : goal.returns

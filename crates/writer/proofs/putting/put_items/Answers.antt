@@ -1,6 +1,6 @@
 -- `writer::putting::put_items` meets its contract.
 use borrow.Author.Rules.{rules}
-use Rattle.writer.proofs.Left.{none_room, none_done, turns_start, turns_room, turns_next, last_room, turns_done}
+use Rattle.writer.proofs.Left.{none_room, none_done, turns_room, turns_next, last_room, turns_done}
 use Rattle.writer.proofs.putting.put_items.Goals as goal
 
 pub put_byte-requires : goal.put_byte-requires

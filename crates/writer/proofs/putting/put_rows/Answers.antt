@@ -1,6 +1,6 @@
 -- `writer::putting::put_rows` meets its contract.
 use borrow.Author.Rules.{rules}
-use Rattle.writer.proofs.Left.{rows_start, rows_room, rows_next, rows_done}
+use Rattle.writer.proofs.Left.{rows_room, rows_next, rows_done}
 use Rattle.writer.proofs.putting.put_rows.Goals as goal
 
 pub put_entries-p-requires : goal.put_entries-p-requires

@@ -1,9 +1,6 @@
 -- `writer::writing::write` meets its contract: each return is one way out.
-use Rattle.writer.proofs.Writes.{write_refused, write_accepted, write_short, write_room, write_done}
+use Rattle.writer.proofs.Writes.{write_accepted, write_short, write_room, write_done}
 use Rattle.writer.proofs.writing.write.Goals as goal
-
-pub returns-then-number-ne-ACCEPTED : goal.returns-then-number-ne-ACCEPTED
-returns-then-number-ne-ACCEPTED c = search write_refused
 
 pub file_length-length-requires : goal.file_length-length-requires
 file_length-length-requires c = search write_accepted
