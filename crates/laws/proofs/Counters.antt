@@ -1,5 +1,5 @@
--- The ticket lock's counters count the joins and the releases.
-use mathlib.Core.Path.{◌≡◌}
+-- The ticket lock's counters count the joins and the releases; and a trace of them.
+use mathlib.Core.Path.{◌≡◌, refl}
 use mathlib.Core.Bool.{true}
 use mathlib.Core.List.{List, ◌++◌, append-nil}
 use Prim.Native.Nat.{ℕ, ◌+◌, ◌%◌, ◌≤◌, ◌<◌}
@@ -7,13 +7,14 @@ use native.Mathlib.Omega.{arith}
 use lib.ListN.{length, length-append}
 use Rattle.rules.specs.Bounds.{most_ticket}
 use Rattle.rules.specs.Settings.{Settings}
-use Rattle.rules.specs.Step.{release, Event, said, Step}
-use Rattle.rules.specs.Course.{memory, says}
-use Rattle.rules.specs.Play.{Run, taking, after, whole}
+use Rattle.rules.specs.Memory.{upd}
+use Rattle.rules.specs.Step.{remote, release, Event, said, Step}
+use Rattle.rules.specs.Course.{turn, memory, says}
+use Rattle.rules.specs.Play.{Run, first, within, taking, after, whole}
 use Rattle.rules.specs.Ticket.{State, step, machine}
 use Rattle.rules.specs.Calls.{all_below}
 use Rattle.rules.proofs.Plays.{by_after, by_turn}
-use Rattle.laws.specs.Laws.{of, Counters}
+use Rattle.laws.specs.Laws.{of, accesses, Counters, two_boards, nine_turns, nine_accesses}
 use Rattle.laws.proofs.Locks.{Lock, Good, of_append, good, by_good}
 use Rattle.laws.proofs.TicketTurns.{ticket, apart, undisturbed, raised}
 
@@ -53,3 +54,7 @@ module _ (s : Settings) (small : s.procs ≤ most_ticket + 1) (first : s.ticket 
 
       served : Served (whole machine s t).memory (whole machine s t).events
       served = by_good machine s lock (λ r. Served r.memory r.events) one_turn (omega (arith, first)) t b
+
+pub trace : accesses machine two_boards nine_turns (first machine two_boards) ≡ nine_accesses
+unfolding accesses upd remote turn within taking after step
+trace = refl

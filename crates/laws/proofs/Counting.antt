@@ -3,22 +3,23 @@ use mathlib.Core.Path.{◌≡◌, refl, sym, ap, subst}
 use mathlib.Core.Logic.{◌≢◌}
 use mathlib.Core.Bool.{Bool, true, false}
 use mathlib.Core.List.{List, [], ◌∷◌, ◌++◌}
-use Prim.Native.Nat.{ℕ, zero, suc, ◌+◌, ◌≤◌, max}
+use Prim.Native.Nat.{ℕ, ◌+◌, max}
 use native.Mathlib.Decide.{ℕ_discrete}
 use native.Mathlib.Omega.{arith}
 use borrow.Author.Tests.{eq-eqb, ne_eqb}
 use lib.Dec.{eqb}
-use Rattle.rules.specs.Memory.{pick, upd}
+use Rattle.rules.specs.Memory.{pick}
 use Rattle.rules.specs.Settings.{Settings}
-use Rattle.rules.specs.Step.{Access, remote, Next, stay, again, to, over, Step, Machine}
+use Rattle.rules.specs.Step.{Access, remote, Next, stay, again, to, over, Machine}
 use Rattle.rules.specs.Course.{Course, Turn, holds, idles, makes, course}
 use Rattle.rules.specs.Tally.{Tally, access, begun, spun, tally}
 use Rattle.rules.specs.Play.{Run, first, next, taking, after, play, whole}
 use Rattle.rules.proofs.Store.{upd_same, upd_other}
 use Rattle.rules.proofs.Steps.{passed, ends_same, ends_other}
 use Rattle.rules.proofs.Plays.{by_after, by_turn}
-use Rattle.laws.specs.Laws.{turns_taken, accesses, remotes, by, spins, ends, is_idle, is_step, count, onto, passages, prices, largest, last_of, turns_of_one, Counts, CountsPassages, Passes}
-use Rattle.laws.proofs.Costs.{Account, account, Inside, under_way, stepped, after_step, own_step, other_step}
+use Rattle.laws.specs.Laws.{turns_taken, accesses, accesses_of, remotes, by, spins, ends, is_idle, is_step, count, onto, passages, prices, largest, last_of, turns_of_one, Counts, CountsPassages, Passes}
+use Rattle.laws.proofs.Totals.{one_turn}
+use Rattle.laws.proofs.Costs.{Account, account, Inside, under_way, stepped, own_step, other_step}
 
 -- ---- by the turns taken
 
@@ -45,21 +46,28 @@ module _ (m : Machine) (s : Settings) {N : Type 0} (number : Course → Tally �
 
 -- ---- the total
 
--- a turn adds what its access costs
-one_turn : {S : Type 0} (i at : ℕ) (w : Turn S) (t : Tally) → (tally i at w t).total ≡ t.total + remote i (access w)
-unfolding remote
-one_turn i at holds t = omega arith
-one_turn i at idles t = omega arith
-one_turn i at (makes w) t = refl
-
-pub total_counted : (m : Machine) (s : Settings) (t : List ℕ) → (whole m s t).tally.total ≡ remotes (accesses (turns_taken m s t (first m s)))
+pub total_counted_turns : (m : Machine) (s : Settings) (t : List ℕ) → (whole m s t).tally.total ≡ remotes (accesses_of (turns_taken m s t (first m s)))
 unfolding whole
-total_counted m s t =
+total_counted_turns m s t =
     omega (
       arith,
-      by_turns m s (λ c t. t.total) (λ a l b. b ≡ a + remotes (accesses l)) (λ a. omega arith)
+      by_turns m s (λ c t. t.total) (λ a l b. b ≡ a + remotes (accesses_of l)) (λ a. omega arith)
           (λ r i l b h. omega (arith, h, one_turn i (r.course.at i) (next m s r i) r.tally)) t (first m s),
     )
+
+-- the accesses are those made in the turns taken
+in_turns : (m : Machine) (s : Settings) (t : List ℕ) (r : Run m.State) → accesses m s t r ≡ accesses_of (turns_taken m s t r)
+unfolding accesses turns_taken
+in_turns m s [] r = refl
+in_turns m s (i ∷ t) r = go (eqb (after m s r i).taken r.taken) (accesses m s t (after m s r i)) (turns_taken m s t (after m s r i)) (in_turns m s t (after m s r i))
+  where
+    go : (b : Bool) (l : List (ℕ × Access)) (w : List (ℕ × Turn m.State)) → l ≡ accesses_of w
+        → pick b [] ((i, access (next m s r i)) ∷ []) ++ l ≡ accesses_of (pick b [] ((i, next m s r i) ∷ []) ++ w)
+    go true l w e = e
+    go false l w e = ap (λ (l : List (ℕ × Access)). (i, access (next m s r i)) ∷ l) e
+
+pub made_in_turns : (m : Machine) (s : Settings) (t : List ℕ) → accesses m s t (first m s) ≡ accesses_of (turns_taken m s t (first m s))
+made_in_turns m s t = in_turns m s t (first m s)
 
 -- ---- the numbers of one processor
 
@@ -75,7 +83,7 @@ numbers i c t = record { done = c.done i; far = t.far i; spins = t.spins i; idle
 -- b is a and what the turns add
 record Adds {S : Type 0} (a : Numbers) (l : List (ℕ × Turn S)) (b : Numbers) : Type 0 where
   done : b.done ≡ a.done + count (is_step ends) l
-  far : b.far ≡ a.far + remotes (accesses l)
+  far : b.far ≡ a.far + remotes (accesses_of l)
   spins : b.spins ≡ a.spins + count (is_step spins) l
   idle : b.idle ≡ a.idle + count is_idle l
 

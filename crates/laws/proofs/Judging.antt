@@ -1,6 +1,6 @@
 -- Where a refusal with 3, 4 or 5 comes from: a number that was read to its separator and failed its test. Whatever that test refuses in the number's
 -- place, the file is refused for.
-use Prim.Native.Nat.{ℕ, zero, suc, ◌+◌, ◌-◌, ◌^◌, ◌≤◌, ◌<◌}
+use Prim.Native.Nat.{ℕ, zero, suc, ◌+◌, ◌^◌, ◌≤◌, ◌<◌}
 use mathlib.Core.Path.{◌≡◌, refl, ap, ap₂, sym, ◌∙◌, subst}
 use mathlib.Core.List.{List, [], ◌∷◌, ◌++◌, append_assoc, append-nil}
 use mathlib.Core.Bool.{Bool, false, ◌&&◌, and-false}
@@ -12,7 +12,7 @@ use native.Mathlib.Omega.{arith}
 use Rattle.rules.specs.Bounds.{most_turns}
 use Rattle.rules.specs.Settings.{Settings}
 use Rattle.rules.specs.Machines.{bytes}
-use Rattle.rules.specs.Rule.{Got, ok, fault, Rule, ◌>>=◌, ◌>>◌, give, checked, feed, comma, is_digit, digits, number}
+use Rattle.rules.specs.Rule.{Got, ok, fault, Rule, ◌>>=◌, give, checked, feed, comma, is_digit, digits, number}
 use Rattle.rules.specs.File.{decimal_in, decimal, ranged, items, turns, whole, file}
 use Rattle.rules.specs.Calls.{Reading, refused_read, reading_of, reading}
 use Rattle.rules.proofs.Store.{either, by_test}

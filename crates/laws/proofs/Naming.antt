@@ -1,6 +1,6 @@
 -- The table of machines, and what a file's first line names.
 use mathlib.Core.Path.{◌≡◌, refl, sym, ap, ◌∙◌, subst}
-use mathlib.Core.Logic.{◌⊎◌, inl, inr}
+use mathlib.Core.Logic.{inl, inr}
 use mathlib.Core.Bool.{true}
 use mathlib.Core.List.{List, [], ◌∷◌, ◌++◌, append_assoc, append_cancel_left}
 use Prim.Native.Nat.{ℕ, ◌+◌, ◌≤◌}
@@ -9,14 +9,12 @@ use lib.Dec.{eqb}
 use lib.ListN.{length}
 use Rattle.rules.specs.Settings.{Settings}
 use Rattle.rules.specs.Machines.{bytes, lock, barrier, table, numbered, known}
-use Rattle.rules.specs.Rule.{Got, ok, feed}
+use Rattle.rules.specs.Rule.{ok, feed}
 use Rattle.rules.specs.File.{name, text}
 use Rattle.rules.specs.Calls.{reading}
 use Rattle.rules.proofs.Known.{found, known_number, unknown_number}
 use Rattle.rules.proofs.Store.{false_true}
-use Rattle.rules.proofs.Accepted.{Accepted}
 use Rattle.laws.specs.Laws.{Prefix, settings_of, turns_of, LockFile, Machines}
-use Rattle.laws.proofs.Exact.{Exact}
 use Rattle.laws.proofs.Names.{exact_name}
 use Rattle.laws.proofs.Files.{read_accepts}
 

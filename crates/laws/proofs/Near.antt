@@ -11,7 +11,7 @@ use native.Mathlib.Omega.{arith}
 use Rattle.rules.specs.Memory.{pick}
 use Rattle.rules.specs.Bounds.{most_procs, most_turns, most_letters, most_digits}
 use Rattle.rules.specs.Machines.{named, known}
-use Rattle.rules.specs.Rule.{Got, ok, fault, Rule, after, ◌>>=◌, ◌>>◌, give, checked, feed, comma, is_digit, is_lower, lit, letters, word, digits, number}
+use Rattle.rules.specs.Rule.{Got, ok, fault, Rule, after, ◌>>=◌, give, checked, feed, comma, is_digit, is_lower, lit, letters, word, digits, number}
 use Rattle.rules.specs.File.{name, ranged, items, turns}
 use Rattle.rules.proofs.Store.{by_test, either, left_of, false_true}
 use Rattle.laws.specs.Laws.{Separator}

@@ -11,7 +11,7 @@ use native.Mathlib.Omega.{arith}
 use Rattle.rules.specs.Bounds.{most_turns}
 use Rattle.rules.specs.Settings.{Settings, zeros}
 use Rattle.rules.specs.Machines.{bytes}
-use Rattle.rules.specs.Rule.{fault, Rule, after, give, ◌>>=◌, feed, comma, lit, checked, number}
+use Rattle.rules.specs.Rule.{fault, Rule, after, give, feed, comma, lit, checked, number}
 use Rattle.rules.specs.File.{decimal, rows, rows_text, turns_text, items, turns, Front, front, settings, rest, whole, file, text}
 use Rattle.rules.specs.Calls.{Reading, accepted_read, refused_read, reading_of, reading}
 use Rattle.laws.specs.Laws.{Prefix, Separator, OneMore, UpToTurns, Sides, settings_of, farthest}

@@ -21,6 +21,17 @@ use Rattle.rules.proofs.Accepted.{Below, below}
 use Rattle.rules.proofs.Plays.{by_after}
 use Rattle.laws.specs.Laws.{sum, accesses, remotes}
 
+-- a turn adds what its access costs
+pub one_turn : {S : Type 0} (i at : ℕ) (w : Turn S) (t : Tally) → (tally i at w t).total ≡ t.total + remote i (access w)
+unfolding remote
+one_turn i at holds t = omega arith
+one_turn i at idles t = omega arith
+one_turn i at (makes w) t = refl
+
+remotes_append : (a b : List (ℕ × Access)) → remotes (a ++ b) ≡ remotes a + remotes b
+remotes_append [] b = omega arith
+remotes_append (x ∷ a) b = omega (arith, remotes_append a b)
+
 -- ---- the sum over the processors
 
 sum_past : (f : ℕ → ℕ) (i v n : ℕ) → n ≤ i → sum (upd f i v) n ≡ sum f n
@@ -58,6 +69,32 @@ sum_less f g i d (suc n) l e h = go (ℕ_discrete n i) (λ l. sum_less f g i d n
     go (no z) below = omega (arith, below (omega arith), h n (omega arith))
 
 module _ (m : Machine) (s : Settings) where
+  -- ---- by the accesses
+
+  counted_turn : (r : Run m.State) (i : ℕ)
+      → (after m s r i).tally.total ≡ r.tally.total + remotes (pick (eqb (after m s r i).taken r.taken) [] ((i, access (next m s r i)) ∷ []))
+  unfolding taking
+  counted_turn r i = by_after m s r i Counted unchanged unchanged (λ l. rw (ne_eqb (r.taken + 1) r.taken (λ e. omega arith)) (omega (arith, one_turn i (r.course.at i) (next m s r i) r.tally)))
+    where
+      Counted : Run m.State → Type 0
+      Counted q = q.tally.total ≡ r.tally.total + remotes (pick (eqb q.taken r.taken) [] ((i, access (next m s r i)) ∷ []))
+
+      unchanged : r.tally.total ≡ r.tally.total + remotes (pick (eqb r.taken r.taken) [] ((i, access (next m s r i)) ∷ []))
+      unchanged = rw (eq-eqb r.taken r.taken refl) (omega arith)
+
+  counted_play : (t : List ℕ) (r : Run m.State) → (play m s t r).tally.total ≡ r.tally.total + remotes (accesses m s t r)
+  unfolding play accesses
+  counted_play [] r = omega arith
+  counted_play (i ∷ t) r =
+      rw (remotes_append (pick (eqb (after m s r i).taken r.taken) [] ((i, access (next m s r i)) ∷ [])) (accesses m s t (after m s r i)))
+      (omega (arith, counted_play t (after m s r i), counted_turn r i))
+
+  pub total_counted : (t : List ℕ) → (whole m s t).tally.total ≡ remotes (accesses m s t (first m s))
+  unfolding whole
+  total_counted t = omega (arith, counted_play t (first m s))
+
+  -- ---- by the processors
+
   pub summed : (n i at : ℕ) (w : Turn m.State) (t : Tally) → i < n → sum t.far n ≡ t.total → sum (tally i at w t).far n ≡ (tally i at w t).total
   summed n i at holds t b e = e
   summed n i at idles t b e = e

@@ -9,7 +9,7 @@ use borrow.Author.Tests.{ne_eqb}
 use lib.Dec.{eqb, ltb}
 use Rattle.rules.specs.Memory.{pick}
 use Rattle.rules.specs.Settings.{Settings}
-use Rattle.rules.specs.Step.{Access, one, arrive, Next, stay, again, to, over, Step, Machine}
+use Rattle.rules.specs.Step.{Access, one, arrive, Next, to, Step, Machine}
 use Rattle.rules.specs.Ticket as ticket
 use Rattle.rules.specs.Mcs as mcs
 use Rattle.rules.specs.Central as central
@@ -17,7 +17,7 @@ use Rattle.rules.specs.Dissem as dissem
 use Rattle.rules.specs.Tree as tree
 use Rattle.rules.specs.Machines.{table, machine}
 use Rattle.rules.proofs.Known.{found}
-use Rattle.rules.proofs.Store.{either, by_test}
+use Rattle.rules.proofs.Store.{either}
 use Rattle.laws.specs.Laws.{Passes}
 use Rattle.laws.proofs.Costs.{Inside}
 

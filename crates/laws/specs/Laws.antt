@@ -3,8 +3,8 @@ use Prim.Native.String.{String}
 use Rattle.std.specs.Prelude.{ℕ, zero, suc, ◌+◌, ◌-◌, ◌*◌, ◌^◌, ◌/◌, ◌%◌, ◌≤◌, ◌<◌, min, max, ◌≡◌, ◌≢◌, ◌⊎◌, Bool, true, false, List, [], ◌∷◌, ◌++◌, map, eqb, ltb, length, take, drop, replicate}
 use Rattle.rules.specs.Memory.{pick}
 use Rattle.rules.specs.Bounds.{most_procs, most_ticket, most_budget, most_rounds, most_hold, most_turns, most_digits, longest_file}
-use Rattle.rules.specs.Settings.{Settings, entry}
-use Rattle.rules.specs.Step.{Access, remote, Kind, number, join, grant, release, arrive, leave, Event, event, code, said, Next, stay, again, to, over, Machine}
+use Rattle.rules.specs.Settings.{Settings, entry, no_settings}
+use Rattle.rules.specs.Step.{Access, reads, writes, atomics, remote, Kind, number, join, grant, release, arrive, leave, Event, event, code, said, Next, stay, again, to, over, Machine}
 use Rattle.rules.specs.Course.{Turn, holds, idles, makes, holding, says}
 use Rattle.rules.specs.Tally.{access}
 use Rattle.rules.specs.Play.{Run, first, next, after, play, whole}
@@ -18,8 +18,9 @@ use Rattle.rules.specs.Machines as rules
 use Rattle.rules.specs.Machines.{bytes, Sort, lock, barrier, table, machines, numbered, known, machine}
 use Rattle.rules.specs.Rule.{comma, feed, is_digit}
 use Rattle.rules.specs.File.{decimal, text}
+use Rattle.rules.specs.Calls as calls
 use Rattle.rules.specs.Calls.{all_below, refusal, Record, records, Reading, refused_read, reading, Writing, writing, accepted_run, running}
-use Rattle.rules.specs.Cases.{All, cases, worked, borders, requested}
+use Rattle.rules.specs.Cases.{All, AllLong, cases, worked, worked_more, borders, requested, requested_more}
 use Rattle.laws.specs.Traces.{trial, ticket_trace, queue_trace, central_trace, dissem_trace, dissem_two, dissem_alone, tree_trace}
 use Rattle.laws.specs.Slips.{Slip, not_cleared, linked_first, forgotten, less_than, toggled, untoggled, reset_late, slip1, slip2, slip3, slip4, slip5a, slip5b, slip6}
 
@@ -63,6 +64,17 @@ pub record Begins {S : Type 0} (r r' : Run S) : Type 0 where
   pub spins : (i : ℕ) → r.tally.spins i ≤ r'.tally.spins i
   pub idle : (i : ℕ) → r.tally.idle i ≤ r'.tally.idle i
 
+-- the accesses of the turns of t that are taken from r on, each with who makes it
+unfoldable pub accesses : (m : Machine) → Settings → List ℕ → Run m.State → List (ℕ × Access)
+accesses m s [] r = []
+accesses m s (i ∷ t) r =
+    pick (eqb (after m s r i).taken r.taken) [] ((i, access (next m s r i)) ∷ []) ++ accesses m s t (after m s r i)
+
+-- how many of them are remote
+abbrev pub remotes : List (ℕ × Access) → ℕ
+remotes [] = 0
+remotes (a ∷ l) = remote a.0 a.1 + remotes l
+
 -- the turns of t that are taken from r on: whose each is, and what it is
 unfoldable pub turns_taken : (m : Machine) → Settings → List ℕ → Run m.State → List (ℕ × Turn m.State)
 turns_taken m s [] r = []
@@ -70,18 +82,13 @@ turns_taken m s (i ∷ t) r =
     pick (eqb (after m s r i).taken r.taken) [] ((i, next m s r i) ∷ []) ++ turns_taken m s t (after m s r i)
 
 -- the accesses made in turns, each with who makes it
-abbrev pub accesses : {S : Type 0} → List (ℕ × Turn S) → List (ℕ × Access)
-accesses [] = []
-accesses (w ∷ l) = (w.0, access w.1) ∷ accesses l
-
--- how many of them are remote
-abbrev pub remotes : List (ℕ × Access) → ℕ
-remotes [] = 0
-remotes (a ∷ l) = remote a.0 a.1 + remotes l
+abbrev pub accesses_of : {S : Type 0} → List (ℕ × Turn S) → List (ℕ × Access)
+accesses_of [] = []
+accesses_of (w ∷ l) = (w.0, access w.1) ∷ accesses_of l
 
 -- the machine makes these accesses, where they who make them take the turns
 abbrev pub Touches : Machine → Settings → List (ℕ × Access) → Type 0
-Touches m s l = accesses (turns_taken m s (map (λ a. a.0) l) (first m s)) ≡ l
+Touches m s l = accesses_of (turns_taken m s (map (λ a. a.0) l) (first m s)) ≡ l
 
 -- ---- counting
 
@@ -159,7 +166,7 @@ turns_of_one m s t i = by i (turns_taken m s t (first m s))
 -- what is counted of i in the run r, by its turns
 pub record Counts {S : Type 0} (i : ℕ) (turns : List (ℕ × Turn S)) (r : Run S) : Type 0 where
   pub done : r.course.done i ≡ count (is_step ends) turns
-  pub far : r.tally.far i ≡ remotes (accesses turns)
+  pub far : r.tally.far i ≡ remotes (accesses_of turns)
   pub spins : r.tally.spins i ≡ count (is_step spins) turns
   pub idle : r.tally.idle i ≡ count is_idle turns
 
@@ -443,6 +450,17 @@ three_boards = record { algo = 2; procs = 3; home = 0; ticket = 0; budget = 1638
 abbrev pub four_turns : List ℕ
 four_turns = 1 ∷ 1 ∷ 2 ∷ 2 ∷ 2 ∷ 2 ∷ 1 ∷ 1 ∷ 2 ∷ 2 ∷ 0 ∷ 0 ∷ 2 ∷ 0 ∷ 0 ∷ 2 ∷ 2 ∷ []
 
+-- the ticket lock's marked case: what each of its turns touches, as a bus trace shows it. Variable 0 is the request counter, 1 the release counter
+abbrev pub two_boards : Settings
+two_boards = record { algo = 1; procs = 2; home = 0; ticket = 65535; budget = 16384; rounds = 1 ∷ 1 ∷ []; hold = [] }
+
+abbrev pub nine_turns : List ℕ
+nine_turns = 0 ∷ 1 ∷ 1 ∷ 0 ∷ 0 ∷ 0 ∷ 1 ∷ 1 ∷ 1 ∷ []
+
+abbrev pub nine_accesses : List (ℕ × Access)
+nine_accesses =
+    (0, atomics 0 0) ∷ (1, atomics 0 0) ∷ (1, reads 0 1) ∷ (0, reads 0 1) ∷ (0, reads 0 1) ∷ (0, writes 0 1) ∷ (1, reads 0 1) ∷ (1, reads 0 1) ∷ (1, writes 0 1) ∷ []
+
 abbrev pub one_board : Settings
 one_board = record { algo = 1; procs = 1; home = 0; ticket = 0; budget = 16384; rounds = 1 ∷ []; hold = 2 ∷ [] }
 
@@ -473,9 +491,12 @@ pub record Beginnings : Type 1 where
   pub stopped : (m : Machine) (s : Settings) (t u : List ℕ) → (whole m s t).stopped ≡ true → whole m s (t ++ u) ≡ whole m s t
   -- the total keeps to the budget; it is the number of remote accesses of the turns taken, and the sum of the processors' numbers
   pub budget : (m : Machine) (s : Settings) (t : List ℕ) → (whole m s t).tally.total ≤ s.budget
-  pub counted : (m : Machine) (s : Settings) (t : List ℕ) → (whole m s t).tally.total ≡ remotes (accesses (turns_taken m s t (first m s)))
+  pub counted : (m : Machine) (s : Settings) (t : List ℕ) → (whole m s t).tally.total ≡ remotes (accesses m s t (first m s))
   pub summed : (m : Machine) (s : Settings) (t : List ℕ) → all_below s.procs t ≡ true
       → sum (whole m s t).tally.far s.procs ≡ (whole m s t).tally.total
+  -- the same by the turns taken, in which those accesses are made
+  pub counted_turns : (m : Machine) (s : Settings) (t : List ℕ) → (whole m s t).tally.total ≡ remotes (accesses_of (turns_taken m s t (first m s)))
+  pub made_in_turns : (m : Machine) (s : Settings) (t : List ℕ) → accesses m s t (first m s) ≡ accesses_of (turns_taken m s t (first m s))
 
 -- the table of machines, whole; and what an accepted file names
 pub record Machines : Type 1 where
@@ -621,6 +642,11 @@ pub record Refusals : Type 0 where
   pub read_leaves : (bytes schedule : List ℕ) (n : ℕ)
       → (let r : Reading = reading bytes schedule in
       r.answer.number ≡ suc n
+      → r ≡ record { answer = record { number = suc n; place = r.answer.place; settings = no_settings; count = 0 }; schedule = schedule })
+  -- and this settings record is zeros, number by number
+  pub read_leaves_zero : (bytes schedule : List ℕ) (n : ℕ)
+      → (let r : Reading = reading bytes schedule in
+      r.answer.number ≡ suc n
       → r ≡ record { answer = record { number = suc n; place = r.answer.place; settings = all_zero; count = 0 }; schedule = schedule })
 
 -- one turn more at the end of an accepted file: a comma in place of the last line feed, where there are turns, a number of up to nine digits, its separator
@@ -669,11 +695,6 @@ pub record Reached : Type 0 where
   pub last_byte : (bytes : List ℕ) × (length (bytes ++ feed ∷ []) ≡ farthest)
       × (reading (bytes ++ feed ∷ []) (replicate most_turns 0) ≢ reading bytes (replicate most_turns 0))
 
--- in the queue lock no passage, finished or not, makes more than four remote references: as it is counted, and of the accesses themselves
-pub record Four : Type 0 where
-  pub counted : (s : Settings) (t : List ℕ) (i : ℕ) → (whole mcs.machine s t).tally.most i ≤ most_references
-  pub made : (s : Settings) (t : List ℕ) (i : ℕ) → NoneAbove most_references (prices (passages (turns_of_one mcs.machine s t i)))
-
 -- the tree barrier, with any number of processors. Processor i is in no passage where its next step is step 1
 pub record TreePrice : Type 0 where
   -- the turn that finishes a passage leaves exactly so many remote references counted for it
@@ -707,10 +728,12 @@ pub record Laws : Type 1 where
   pub cases : All cases
   -- cases of document 01 that it does not mark, worked out by hand
   pub worked : All worked
-  -- values at the ends of their ranges, and bytes that cannot follow
-  pub borders : All borders
   -- cases of document 02's requests, worked out by hand
   pub requested : All requested
+  -- more of both; and values at the ends of their ranges, and bytes that cannot follow
+  pub worked_more : AllLong worked_more
+  pub requested_more : AllLong requested_more
+  pub borders : AllLong borders
   pub machines : Machines
   pub beginnings : Beginnings
   pub counting : Counting
@@ -722,12 +745,17 @@ pub record Laws : Type 1 where
   -- and count the joins and the releases
   pub counters : (s : Settings) (t : List ℕ) → s.procs ≤ most_ticket + 1 → s.ticket ≤ most_ticket → all_below s.procs t ≡ true
       → Counters s.ticket (whole ticket.machine s t)
+  -- who touches what in which manner, in the ticket lock's marked case
+  pub trace : accesses ticket.machine two_boards nine_turns (first ticket.machine two_boards) ≡ nine_accesses
   pub traces : Traces
   -- two lock runs, the joins of the one a beginning of the other's, never disagree on who comes next
   pub agree : (m n : Machine) (s w : Settings) (t u : List ℕ) → LockRun m s t → LockRun n w u
       → Prefix (of join (whole m s t).events) (of join (whole n w u).events)
       → (k f g : ℕ) → ComesNext k f (whole m s t).events → ComesNext k g (whole n w u).events → f ≡ g
-  pub four : Four
+  -- in the queue lock no passage, finished or not, makes more than four remote references
+  pub four : (s : Settings) (t : List ℕ) (i : ℕ) → (whole mcs.machine s t).tally.most i ≤ most_references
+  -- and so it is with the accesses themselves
+  pub four_made : (s : Settings) (t : List ℕ) (i : ℕ) → NoneAbove most_references (prices (passages (turns_of_one mcs.machine s t i)))
   pub tree_price : TreePrice
   pub runs : Runs
   pub going : Going
@@ -739,13 +767,23 @@ pub record Laws : Type 1 where
   -- read's 4 and 5, at the end of an accepted file
   pub one_more : OneMore
   pub sides : Sides
-  -- what read accepted, write gives back byte for byte where it has room; what lies past the written part stays
+  -- what read accepted, write gives back byte for byte where it has room
   pub read_write : (bytes schedule out : List ℕ)
       → (let r : Reading = reading bytes schedule in
       r.answer.number ≡ 0 → length bytes ≤ length out
-      → writing (settings_of r) (turns_of r) out ≡ record { answer = record { number = 0; count = length bytes }; out = bytes ++ drop (length bytes) out })
+      → writing (settings_of r) (turns_of r) out ≡ record { answer = record { number = 0; count = length bytes }; out = calls.over bytes out })
   -- what write accepted, read gives back, settings and schedule
   pub write_read : (s : Settings) (t out schedule : List ℕ)
+      → length s.rounds ≡ most_procs → length s.hold ≡ most_procs
+      → (let w : Writing = writing s t out in
+      w.answer.number ≡ 0 → length t ≤ length schedule
+      → reading (file_of w) schedule ≡ record { answer = record { number = 0; place = 0; settings = s; count = length t }; schedule = calls.over t schedule })
+  -- in both, what lies past the written part stays
+  pub read_write_kept : (bytes schedule out : List ℕ)
+      → (let r : Reading = reading bytes schedule in
+      r.answer.number ≡ 0 → length bytes ≤ length out
+      → writing (settings_of r) (turns_of r) out ≡ record { answer = record { number = 0; count = length bytes }; out = bytes ++ drop (length bytes) out })
+  pub write_read_kept : (s : Settings) (t out schedule : List ℕ)
       → length s.rounds ≡ most_procs → length s.hold ≡ most_procs
       → (let w : Writing = writing s t out in
       w.answer.number ≡ 0 → length t ≤ length schedule

@@ -1,5 +1,5 @@
 -- Laws for the function `core`: one for each way out.
-use Rattle.core.specs.Prelude.{◌≡◌, ℕ, zero, suc, ◌+◌, ◌*◌, ◌<◌, ◌≤◌, Bool, true, false, ◌&&◌, eqb, leb, ◌≢◌, List, ◌∷◌, length, replicate}
+use Rattle.std.specs.Prelude.{◌≡◌, ℕ, zero, suc, ◌+◌, ◌*◌, ◌<◌, ◌≤◌, Bool, true, false, ◌&&◌, eqb, leb, ◌≢◌, List, ◌∷◌, length, replicate}
 use mathlib.Core.Path.{refl, sym, ap, ap₂, ◌∙◌, subst}
 use native.Mathlib.Nat.{add-zero}
 use native.Mathlib.Omega.{arith}
@@ -14,7 +14,7 @@ use Rattle.rules.specs.Calls.{over, refusal, accepted_run, records, running}
 use Rattle.rules.proofs.Known.{known_range}
 use Rattle.rules.proofs.Accepted.{accepted, accepts, refusal_room}
 use Rattle.rules.proofs.Views.{column}
-use Rattle.machine.specs.declared.core.Outcome.{Outcome}
+use Rattle.machine.specs.declared.decide.Outcome.{Outcome}
 use Rattle.turns.specs.declared.played.Played.{Played}
 use Rattle.turns.specs.CountView.{numbers, done_of, tally_of}
 use Rattle.turns.specs.PlayView.{Ready, PlayedIs}

@@ -1,5 +1,5 @@
 -- A run has one outcome: what `run` says of the answer, the events row and the table leaves no choice, and so with `tallies`.
-use Rattle.core.specs.Prelude.{◌≡◌, ℕ, min, List, [], ◌∷◌, ◌++◌, map, take}
+use Rattle.std.specs.Prelude.{◌≡◌, ℕ, min, List, [], ◌∷◌, ◌++◌, map, take}
 use mathlib.Core.Path.{refl, sym, ap, ◌∙◌}
 use lib.ListN.{take-append-drop}
 use Rattle.rules.specs.Settings.{Settings}

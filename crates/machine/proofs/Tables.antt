@@ -1,12 +1,12 @@
 -- A table filled with the records of an outcome is the rules' table, and so a run gives what the rules say.
-use Rattle.core.specs.Prelude.{◌≡◌, ℕ, zero, suc, ◌+◌, ◌<◌, ◌≤◌, List, [], ◌∷◌, ◌++◌, map, length, set}
+use Rattle.std.specs.Prelude.{◌≡◌, ℕ, zero, suc, ◌+◌, ◌<◌, ◌≤◌, List, [], ◌∷◌, ◌++◌, map, length, set}
 use mathlib.Core.Path.{refl, sym, ap, ◌∙◌}
 use native.Mathlib.Omega.{arith}
 use lib.ListN.{length-set, length-map}
 use Rattle.rules.specs.Settings.{Settings}
 use Rattle.rules.specs.Calls as rules
 use Rattle.rules.specs.Calls.{over}
-use Rattle.machine.specs.declared.core.Outcome.{Outcome}
+use Rattle.machine.specs.declared.decide.Outcome.{Outcome}
 use Rattle.machine.specs.declared.table.Record.{Record}
 use Rattle.machine.specs.declared.table.Answer.{Answer}
 use Rattle.machine.specs.RunView.{record_at, records_at, record_of, record_from, answer_from, answer_of, filled, OutcomeIs, Ran}

@@ -1,9 +1,9 @@
 -- What `run` and `tallies` are to give, for every input: one equation with the rules' definition of the call.
-use Rattle.core.specs.Prelude.{◌≡◌, ℕ, zero, suc, ◌+◌, ◌*◌, ◌≤◌, min, List, [], ◌∷◌, map, length, take, drop, slice_index, slice_set}
+use Rattle.std.specs.Prelude.{◌≡◌, ℕ, zero, suc, ◌+◌, ◌*◌, ◌≤◌, min, List, [], ◌∷◌, map, length, take, drop, slice_index, slice_set}
 use Rattle.rules.specs.Settings.{Settings}
 use Rattle.rules.specs.Calls as rules
 use Rattle.rules.specs.Calls.{over, running}
-use Rattle.machine.specs.declared.core.Outcome.{Outcome}
+use Rattle.machine.specs.declared.decide.Outcome.{Outcome}
 use Rattle.machine.specs.declared.table.Record.{Record}
 use Rattle.machine.specs.declared.table.Answer.{Answer}
 use Rattle.machine.specs.declared.running.Tallied.{Tallied}

@@ -1,7 +1,7 @@
 // The run over a schedule.
 #![tactic(auto)]
 
-mod core;
+mod decide;
 mod running;
 mod table;
 

@@ -1,9 +1,9 @@
 // The run over a schedule, whole: the answer, the events and the table.
-ghost use Rattle.core.specs.Prelude.{◌≡◌, min};
+ghost use Rattle.std.specs.Prelude.{◌≡◌, min};
 ghost use Rattle.settings.specs.View.{settings_of};
 ghost use Rattle.machine.specs.RunView.{Ran, Tallies};
 
-use crate::core::core;
+use crate::decide::core;
 use crate::table::{Answer, Record, answer_of, fill};
 use settings::Settings;
 

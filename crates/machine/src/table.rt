@@ -1,8 +1,8 @@
 // The table: a record for each processor, lent by the caller.
-ghost use Rattle.core.specs.Prelude.{◌≡◌, ◌<◌, ◌≤◌, length};
+ghost use Rattle.std.specs.Prelude.{◌≡◌, ◌<◌, ◌≤◌, length};
 ghost use Rattle.machine.specs.RunView.{record_from, answer_from, filled};
 
-use crate::core::Outcome;
+use crate::decide::Outcome;
 
 // Passages done, remote references, the most in any one passage begun, spins, idle turns.
 #[derive(Clone, Copy)]

@@ -73,6 +73,9 @@ pub record Here (w rounds : ℕ) (x : State) (c : Course) (k : ℕ) : Type 0 whe
   pub dues : Dues c w rounds what
   pub is : what ≡ due.Step k
 
+pub here : {w rounds k : ℕ} {x : State} {c : Course} {what : Due} → w < 64 → Sound x → Dues c w rounds what → what ≡ due.Step k → Here w rounds x c k
+here {what = what} b s e i = record { below = b; sound = s; what = what; dues = e; is = i }
+
 module _ {w rounds : ℕ} {x : State} {c : Course} {k : ℕ} (o : Here w rounds x c k) (home hold : ℕ) (x' : State) (c' : Course) (d : Told) where
   abbrev Out : Type 0
   Out = Turns machine (At home) w rounds hold x c x' c' d × Sound x'

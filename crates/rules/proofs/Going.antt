@@ -6,7 +6,6 @@ use Prim.Native.Nat.{ℕ, ◌+◌, ◌*◌, ◌≤◌, ◌<◌}
 use native.Mathlib.Decide.{ℕ_discrete}
 use native.Mathlib.Omega.{arith}
 use lib.ListN.{length, length-append, get_or, drop}
-use Rattle.rules.specs.Memory.{upd}
 use Rattle.rules.specs.Settings.{Settings}
 use Rattle.rules.specs.Step.{said, code, Machine}
 use Rattle.rules.specs.Course as course

@@ -8,3 +8,4 @@ pub mod Views
 pub mod Turned
 pub mod Going
 pub mod Levels
+pub mod Cases

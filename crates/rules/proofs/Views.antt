@@ -5,7 +5,7 @@ use Prim.Native.Nat.{ℕ, zero, suc, ◌+◌, ◌*◌, ◌≤◌, ◌<◌}
 use mathlib.Core.Logic.{◌≢◌}
 use native.Mathlib.Decide.{ℕ_discrete}
 use native.Mathlib.Omega.{arith}
-use lib.ListN.{length, get_or, set, replicate, drop, length-append, length-drop}
+use lib.ListN.{length, get_or, set, replicate, length-append, length-drop}
 use lib.Seq.{get_or-set_same, get_or-set_other, sets, sets-eq, take-append_seam, drop-append-add, drop-drop}
 use Rattle.rules.specs.Memory.{upd, each}
 use Rattle.rules.specs.Calls.{over}

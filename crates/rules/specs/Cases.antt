@@ -1,23 +1,14 @@
--- The eleven cases that document 01 marks, as one list, the ticket lock's as document 02 has it; cases of document 01 that it does not mark; its borders;
--- and cases of document 02's requests.
-use Rattle.std.specs.Prelude.{ℕ, ◌≡◌, refl, List, [], ◌∷◌, ◌++◌, map, eqb, take, replicate}
+-- The eleven cases that document 01 marks, as one list, the ticket lock's as document 02 has it; cases of document 01 that it does not mark, as another;
+-- and cases of document 02's requests. Beside these more of the last two, and document 01's borders. proofs/Cases has the proofs.
+use Rattle.std.specs.Prelude.{ℕ, ◌≡◌, List, [], ◌∷◌, ◌++◌, map, eqb, take, replicate}
 use Prim.Native.String.{String}
-use Rattle.rules.specs.Memory.{pick, upd}
+use Rattle.rules.specs.Memory.{pick}
 use Rattle.rules.specs.Settings.{Settings}
 use Rattle.rules.specs.Step.{remote}
-use Rattle.rules.specs.Course.{turn}
-use Rattle.rules.specs.Play.{whole, play, after, within, taking}
-use Rattle.rules.specs.Ticket as ticket
-use Rattle.rules.specs.Mcs as mcs
-use Rattle.rules.specs.Central as central
-use Rattle.rules.specs.Dissem as dissem
-use Rattle.rules.specs.Dissem.{doublings, doubled}
-use Rattle.rules.specs.Tree as tree
+use Rattle.rules.specs.Dissem.{doublings}
 use Rattle.rules.specs.Machines.{bytes}
-use Rattle.rules.specs.Rule.{lit, letters, word, digits, number}
-use Rattle.rules.specs.File as file
-use Rattle.rules.specs.File.{decimal_in, decimal, rows, items, turns, front, rest}
-use Rattle.rules.specs.Calls.{in_row, in_range, all_below, refusal, reading_of, reading, Record, accepted_run, running}
+use Rattle.rules.specs.File.{turns}
+use Rattle.rules.specs.Calls.{reading, Record, running}
 
 -- what the program shows of a file: its lines turns, stop and remote, the p lines, the events; or refused and place
 pub data Shown : Type 0 where
@@ -30,12 +21,12 @@ p done remote most spins idle = record { done = done; remote = remote; most = mo
 -- the lent buffers, long enough for these cases
 abbrev pub played : Settings → List ℕ → Shown
 played s ts =
-    let r = running s ts (replicate 600 0) (replicate 22 (p 0 0 0 0 0)) in
+    let r = running s ts (replicate 80 0) (replicate 8 (p 0 0 0 0 0)) in
     shows r.answer.turns r.answer.stop r.answer.total (take s.procs r.table) (take r.answer.events r.events)
 
 abbrev pub shown : List ℕ → Shown
 shown f =
-    let r = reading f (replicate 300 0) in
+    let r = reading f (replicate 40 0) in
     pick (eqb r.answer.number 0)
     (played r.answer.settings (take r.answer.count r.schedule))
     (refused r.answer.number r.answer.place)
@@ -52,6 +43,27 @@ Holds (doubles ps rs) = map doublings ps ≡ rs
 abbrev pub All : List Case → Type 0
 All [] = Unit {0}
 All (c ∷ l) = Holds c × All l
+
+-- the same with longer buffers, for cases of more processors, turns or events
+abbrev pub played_long : Settings → List ℕ → Shown
+played_long s ts =
+    let r = running s ts (replicate 600 0) (replicate 22 (p 0 0 0 0 0)) in
+    shows r.answer.turns r.answer.stop r.answer.total (take s.procs r.table) (take r.answer.events r.events)
+
+abbrev pub shown_long : List ℕ → Shown
+shown_long f =
+    let r = reading f (replicate 300 0) in
+    pick (eqb r.answer.number 0)
+    (played_long r.answer.settings (take r.answer.count r.schedule))
+    (refused r.answer.number r.answer.place)
+
+abbrev pub HoldsLong : Case → Type 0
+HoldsLong (gives f o) = shown_long f ≡ o
+HoldsLong (doubles ps rs) = map doublings ps ≡ rs
+
+abbrev pub AllLong : List Case → Type 0
+AllLong [] = Unit {0}
+AllLong (c ∷ l) = HoldsLong c × AllLong l
 
 -- input A, with this name, ticket, budget and turns
 abbrev pub input_a : (algo ticket budget turns : String) → List ℕ
@@ -79,21 +91,11 @@ cases =
     ∷ gives (bytes "algo=mcs\nprocs=2\nhome=2\n") (refused 3 22)
     ∷ []
 
-pub all_hold : All cases
-unfolding cases upd remote turn whole play after within taking ticket.step mcs.step central.step dissem.step doublings doubled lit letters word digits number decimal_in decimal rows items turns front rest file.whole file.file in_row in_range all_below refusal reading_of accepted_run running
-all_hold = (refl, (refl, (refl, (refl, (refl, (refl, (refl, (refl, (refl, (refl, (refl, tt)))))))))))
-
 -- ---- cases of document 01 that it does not mark, worked out by hand
 
 -- the central barrier: three processors meet twice, and the last to arrive is the home; two do, and once it is not. The dissemination barrier: one processor
 -- alone, with hold turns; three that have met, and one comes again and finds no flag of the other parity set; two that have met twice, and one comes again
--- and finds the flag as it was the first time. The queue lock: each way to release.
--- The dissemination barrier again: three meet three times, each time another comes first, looks too early in both rounds and has left before the last tells in round 1;
--- then 0 tells and looks too early, 1 and 2 go as far as they can, and look again. Nine do this after they have met once, all in step; and after they have met three times, where in
--- each round another looks too early. The queue lock: processors 10 and 11 of twelve pass, and home is 10.
--- The dissemination barrier: two have met four times, and one comes again and finds the flag as it was the third time.
--- The ticket lock: one that has no passages is idle while the other is in its own. The queue lock: five in line at once, who
--- join, link themselves and look while others do, and one comes again
+-- and finds the flag as it was the first time. The queue lock: each way to release
 unfoldable pub worked : List Case
 worked =
     gives (bytes "algo=central\nprocs=3\nhome=2\nticket=0\nbudget=16384\np0=2,0\np1=2,1\np2=2,2\nturns=0,0,1,2,1,2,0,2,0,0,0,1,1,1,2,2,2,2,2,1,0,0,1,1,2,2,2,2\n")
@@ -108,7 +110,17 @@ worked =
     (shows 10 0 5 (p 2 3 1 1 0 ∷ p 2 2 1 0 0 ∷ []) (1024 ∷ 1025 ∷ 1280 ∷ 1281 ∷ 1024 ∷ 1025 ∷ 1280 ∷ 1281 ∷ 1024 ∷ []))
     ∷ gives (bytes "algo=mcs\nprocs=2\nhome=1\nticket=0\nbudget=16384\np0=3,1\np1=2,0\nturns=0,0,0,0,0,0,0,1,1,1,1,1,0,0,0,1,0,1,0,1,1,0,0,0,1,1,0,0,1,0,0,1,1,1,1,0,0\n")
     (shows 37 0 9 (p 3 7 3 1 2 ∷ p 2 2 2 2 1 ∷ []) (256 ∷ 512 ∷ 768 ∷ 256 ∷ 512 ∷ 257 ∷ 768 ∷ 513 ∷ 256 ∷ 769 ∷ 512 ∷ 768 ∷ 257 ∷ 513 ∷ 769 ∷ []))
-    ∷ gives (bytes "algo=dissem\nprocs=3\nhome=0\nticket=0\nbudget=16384\np0=4,0\np1=4,0\np2=4,0\nturns=1,1,2,0,1,2,0,1,1,2,1,0,2,0,0,0,1,2,0,1,2,0,0,1,0,2,1,2,2,2,0,1,2,0,1,2,2,0,2,1,0,1,0,0,1,2,1,2,1,2,1,2,0,2\n")
+    ∷ []
+
+-- the dissemination barrier: three meet three times, each time another comes first, looks too early in both rounds and has left before the last tells in round 1;
+-- then 0 tells and looks too early, 1 and 2 go as far as they can, and look again. Nine do this after they have met once, all in step; and after they have met three times, where in
+-- each round another looks too early. The queue lock: processors 10 and 11 of twelve pass, and home is 10.
+-- The dissemination barrier: two have met four times, and one comes again and finds the flag as it was the third time.
+-- The ticket lock: one that has no passages is idle while the other is in its own. The queue lock: five in line at once, who
+-- join, link themselves and look while others do, and one comes again
+unfoldable pub worked_more : List Case
+worked_more =
+    gives (bytes "algo=dissem\nprocs=3\nhome=0\nticket=0\nbudget=16384\np0=4,0\np1=4,0\np2=4,0\nturns=1,1,2,0,1,2,0,1,1,2,1,0,2,0,0,0,1,2,0,1,2,0,0,1,0,2,1,2,2,2,0,1,2,0,1,2,2,0,2,1,0,1,0,0,1,2,1,2,1,2,1,2,0,2\n")
     (shows 54 0 23 (p 3 7 2 3 0 ∷ p 4 8 2 2 0 ∷ p 3 8 2 4 0 ∷ [])
     (1025 ∷ 1026 ∷ 1024 ∷ 1281 ∷ 1282 ∷ 1280 ∷ 1024 ∷ 1025 ∷ 1026 ∷ 1280 ∷ 1281 ∷ 1282 ∷ 1026 ∷ 1024 ∷ 1025 ∷ 1282 ∷ 1280 ∷ 1281 ∷ 1024 ∷ 1025 ∷ 1026 ∷ 1281 ∷ []))
     ∷ gives (bytes "algo=dissem\nprocs=9\nhome=0\nticket=0\nbudget=16384\np0=2,0\np1=2,0\np2=2,0\np3=2,0\np4=2,0\np5=2,0\np6=2,0\np7=2,0\np8=2,0\nturns=0,1,2,3,4,5,6,7,8,0,1,2,3,4,5,6,7,8,0,1,2,3,4,5,6,7,8,0,1,2,3,4,5,6,7,8,0,1,2,3,4,5,6,7,8,0,1,2,3,4,5,6,7,8,0,1,2,3,4,5,6,7,8,0,1,2,3,4,5,6,7,8,0,0,1,2,3,4,5,6,7,8,1,2,3,4,5,6,7,8,1,2,3,4,5,6,7,8,1,2,3,4,5,6,7,8,1,3,4,5,6,7,8,1,3,4,5,6,7,8,1,3,5,7,8,1,3,5,7,8,0,2,4,6,1,3,5,8\n")
@@ -130,10 +142,6 @@ worked =
     (shows 52 0 16 (p 2 5 3 1 0 ∷ p 1 3 3 3 1 ∷ p 1 3 3 4 0 ∷ p 1 3 3 3 0 ∷ p 1 2 2 1 0 ∷ [])
     (256 ∷ 512 ∷ 257 ∷ 258 ∷ 259 ∷ 260 ∷ 768 ∷ 513 ∷ 256 ∷ 769 ∷ 514 ∷ 770 ∷ 515 ∷ 771 ∷ 516 ∷ 772 ∷ 512 ∷ 768 ∷ []))
     ∷ []
-
-pub worked_hold : All worked
-unfolding worked upd remote turn whole play after within taking ticket.step mcs.step central.step dissem.step doublings doubled lit letters word digits number decimal_in decimal rows items turns front rest file.whole file.file in_row in_range all_below refusal reading_of accepted_run running
-worked_hold = (refl, (refl, (refl, (refl, (refl, (refl, (refl, (refl, (refl, (refl, (refl, (refl, (refl, tt)))))))))))))
 
 -- ---- borders: each value at the end of its range and past it, and bytes that cannot follow; worked out by hand
 
@@ -171,15 +179,9 @@ borders =
     ∷ gives (bytes "algo=mcs\nprocs=") (refused 1 15)
     ∷ []
 
-pub borders_hold : All borders
-unfolding borders whole play lit letters word digits number decimal_in decimal rows items turns front rest file.whole file.file in_row in_range all_below refusal reading_of accepted_run running
-borders_hold = (refl, (refl, (refl, (refl, (refl, (refl, (refl, (refl, (refl, (refl, (refl, (refl, (refl, (refl, (refl, (refl, (refl, (refl, (refl, (refl, (refl, (refl, (refl, (refl, (refl, (refl, (refl, (refl, (refl, (refl, tt))))))))))))))))))))))))))))))
-
 -- ---- requests of document 02: cases that were worked out by hand
 
--- the tree barrier: seven processors meet once, which shows both trees; two meet twice; one is alone, with a hold turn; and, at the end of the list, seven meet three times, where each
--- flag and each sense is looked at too early, and come again, but 6 does not tell; 22 meet once, where the arrival tree has four levels;
--- four meet twice, where 1 has a left child to wake and no right one.
+-- the tree barrier: seven processors meet once, which shows both trees; two meet twice; one is alone, with a hold turn.
 -- The ticket lock: while 0 is between the read and the write of its release 1 spins and 2 joins, and the budget stops the run between those of 1.
 -- The dissemination barrier's partners: of five processors 1 alone goes on to the third round and tells 0, which is 4 further on; so 0 can leave.
 -- Too big a number: six and nine digits are read, and are 3 or 4 at the first digit, in every line; where the file ends it is 1, and at a tenth digit too
@@ -205,7 +207,13 @@ requested =
     ∷ gives (bytes "algo=mcs\nprocs=1\nhome=0\nticket=0\nbudget=0\np0=100000,0\n") (refused 3 45)
     ∷ gives (bytes "algo=mcs\nprocs=1\nhome=0\nticket=0\nbudget=0\np0=1,100000\n") (refused 3 47)
     ∷ gives (input_a "mcs" "0" "16384" "0,999999999") (refused 4 68)
-    ∷ gives (bytes "algo=tree\nprocs=7\nhome=0\nticket=0\nbudget=16384\np0=4,0\np1=4,0\np2=4,0\np3=4,0\np4=4,0\np5=4,0\np6=4,0\nturns=5,6,1,5,1,1,6,1,1,0,1,0,0,2,2,0,0,3,3,0,0,4,4,0,0,1,2,3,4,5,6,0,1,0,1,1,3,4,2,2,2,5,6,5,6,1,5,1,1,6,1,1,0,1,0,0,2,2,0,0,3,3,0,0,4,4,0,0,1,2,3,4,5,6,0,1,0,1,1,3,4,2,2,2,5,6,5,6,1,5,1,1,6,1,1,0,1,0,0,2,2,0,0,3,3,0,0,4,4,0,0,1,2,3,4,5,6,0,1,0,1,1,3,4,2,2,2,5,6,5,5,1,1,0,2,2,2,3,3,3,4,4,4,5,6,1,0,2,3,4,5\n")
+    ∷ []
+
+-- the tree barrier: seven meet three times, where each flag and each sense is looked at too early, and come again, but 6 does not tell;
+-- 22 meet once, where the arrival tree has four levels; four meet twice, where 1 has a left child to wake and no right one
+unfoldable pub requested_more : List Case
+requested_more =
+    gives (bytes "algo=tree\nprocs=7\nhome=0\nticket=0\nbudget=16384\np0=4,0\np1=4,0\np2=4,0\np3=4,0\np4=4,0\np5=4,0\np6=4,0\nturns=5,6,1,5,1,1,6,1,1,0,1,0,0,2,2,0,0,3,3,0,0,4,4,0,0,1,2,3,4,5,6,0,1,0,1,1,3,4,2,2,2,5,6,5,6,1,5,1,1,6,1,1,0,1,0,0,2,2,0,0,3,3,0,0,4,4,0,0,1,2,3,4,5,6,0,1,0,1,1,3,4,2,2,2,5,6,5,6,1,5,1,1,6,1,1,0,1,0,0,2,2,0,0,3,3,0,0,4,4,0,0,1,2,3,4,5,6,0,1,0,1,1,3,4,2,2,2,5,6,5,5,1,1,0,2,2,2,3,3,3,4,4,4,5,6,1,0,2,3,4,5\n")
     (shows 151 0 40 (p 3 6 2 14 0 ∷ p 3 9 3 11 0 ∷ p 3 10 3 5 0 ∷ p 3 4 1 5 0 ∷ p 3 4 1 5 0 ∷ p 3 4 1 5 0 ∷ p 3 3 1 3 0 ∷ [])
     (1029 ∷ 1030 ∷ 1025 ∷ 1024 ∷ 1026 ∷ 1027 ∷ 1028 ∷ 1280 ∷ 1281 ∷ 1283 ∷ 1284 ∷ 1282 ∷ 1285 ∷ 1286 ∷ 1029 ∷ 1030 ∷ 1025 ∷ 1024 ∷ 1026 ∷ 1027 ∷ 1028 ∷ 1280 ∷ 1281 ∷ 1283 ∷ 1284 ∷ 1282 ∷ 1285 ∷ 1286 ∷ 1029 ∷ 1030 ∷ 1025 ∷ 1024 ∷ 1026 ∷ 1027 ∷ 1028 ∷ 1280 ∷ 1281 ∷ 1283 ∷ 1284 ∷ 1282 ∷ 1285 ∷ 1286 ∷ 1029 ∷ 1025 ∷ 1024 ∷ 1026 ∷ 1027 ∷ 1028 ∷ 1030 ∷ []))
     ∷ gives (bytes "algo=tree\nprocs=22\nhome=0\nticket=0\nbudget=16384\np0=1,0\np1=1,0\np2=1,0\np3=1,0\np4=1,0\np5=1,0\np6=1,0\np7=1,0\np8=1,0\np9=1,0\np10=1,0\np11=1,0\np12=1,0\np13=1,0\np14=1,0\np15=1,0\np16=1,0\np17=1,0\np18=1,0\np19=1,0\np20=1,0\np21=1,0\nturns=21,21,20,20,19,19,18,18,17,17,16,16,15,15,14,14,13,13,12,12,11,11,10,10,9,9,8,8,7,7,6,6,5,5,5,4,4,4,4,4,4,3,3,3,3,3,3,2,2,2,2,2,2,1,1,1,1,1,1,0,0,0,0,0,0,0,1,1,1,2,2,2,3,3,3,4,4,4,5,5,5,6,6,6,7,7,7,8,8,8,9,9,9,10,10,11,12,13,14,15,16,17,18,19,20,21\n")
@@ -215,7 +223,3 @@ requested =
     (shows 35 0 12 (p 2 4 2 0 0 ∷ p 2 4 2 1 0 ∷ p 2 2 1 1 0 ∷ p 2 2 1 1 0 ∷ [])
     (1025 ∷ 1026 ∷ 1027 ∷ 1024 ∷ 1280 ∷ 1281 ∷ 1282 ∷ 1283 ∷ 1025 ∷ 1026 ∷ 1027 ∷ 1024 ∷ 1280 ∷ 1281 ∷ 1282 ∷ 1283 ∷ []))
     ∷ []
-
-pub requested_hold : All requested
-unfolding requested upd remote turn whole play after within taking ticket.step dissem.step doublings doubled tree.step lit letters word digits number decimal_in decimal rows items turns front rest file.whole file.file in_row in_range all_below refusal reading_of accepted_run running
-requested_hold = (refl, (refl, (refl, (refl, (refl, (refl, (refl, (refl, (refl, (refl, (refl, (refl, (refl, (refl, (refl, (refl, (refl, tt)))))))))))))))))

@@ -12,7 +12,7 @@ use Rattle.rules.specs.Play.{Run}
 use Rattle.rules.specs.Machines.{machine}
 use Rattle.rules.specs.Calls as calls
 use Rattle.rules.specs.Calls.{over, accepted_run}
-use Rattle.laws.specs.Laws.{InLine, BeginsWith, NamesLock, Accepts, AtMost, most_references}
+use Rattle.laws.specs.Laws.{InLine, Accepts, AtMost, most_references}
 use Rattle.laws.proofs.All.{all_laws}
 use Rattle.settings.specs.View.{settings_of}
 use Rattle.settings.specs.declared.Settings.{Settings}
@@ -33,10 +33,6 @@ module _ (f : FileRun) where
   abbrev turns : List ℕ
   turns = take f.answer.count f.after
 
-  -- by its first line
-  names_lock : NamesLock s
-  names_lock = rw f.read.is at (all_laws.machines.lock_file f.file f.schedule) f.accepted f.lock
-
   accepts : Accepts s turns f.before (map record_of f.blank)
   accepts = ap (λ (x : calls.Running). x.answer.number) f.ran.is ∙ f.played
 
@@ -49,10 +45,8 @@ module _ (f : FileRun) where
       let seam : take (length (map code (said f))) (over (map code (said f)) f.before) ≡ map code (said f) = take-append_seam (map code (said f)) _ in
       record {
         row = subst (λ (n : ℕ). take n f.events ≡ map code (said f)) (sym count) (rw is seam);
-        line = λ t u e. all_laws.runs.run_line s t u f.before (map record_of f.blank) (rw e accepts) names_lock;
-        four = λ p.
-            let two = rw f.read.is at (all_laws.machines.no_other_line f.file f.schedule 2) f.accepted (omega arith) (omega arith) p in
-            rw f.ran.is at (all_laws.runs.run_four s turns f.before (map record_of f.blank) accepts two);
+        line = λ t u e. all_laws.runs.run_line s t u f.before (map record_of f.blank) (rw e accepts) f.lock;
+        four = λ two. rw f.ran.is at (all_laws.runs.run_four s turns f.before (map record_of f.blank) accepts two);
       }
 
 pub entries : Entries
@@ -69,10 +63,12 @@ entries = record {
         ap (λ (x : calls.Reading). x.answer.count) same,
         ap (λ (x : calls.Reading). x.schedule) same,
       );
+  files_line = demand;
+  files_agree = λ f g p. all_laws.runs.run_agree (s f) (s g) (turns f) (turns g) f.before g.before (map record_of f.blank) (map record_of g.blank)
+      (accepts f) f.lock (accepts g) g.lock p;
+  named_lock = λ file schedule after r e ok. rw e.is at (all_laws.machines.lock_file file schedule) ok;
+  named_mcs = λ file schedule after r e ok. rw e.is at (all_laws.machines.no_other_line file schedule 2) ok (omega arith) (omega arith);
   read_run = λ file schedule after before events blank table r given e ok procs twice ran.
       let law = rw e.is at (all_laws.read_run file schedule before (map record_of blank)) in
       sym (ap (λ (x : calls.Running). x.answer.number) ran.is) ∙ law ok (rw (length-map blank record_of) procs) (omega (arith, twice));
-  files_line = demand;
-  files_agree = λ f g p. all_laws.runs.run_agree (s f) (s g) (turns f) (turns g) f.before g.before (map record_of f.blank) (map record_of g.blank)
-      (accepts f) (names_lock f) (accepts g) (names_lock g) p;
 }

@@ -1,10 +1,11 @@
 -- What is proved of the three entries themselves, by their promises alone. proofs/Entries has the proofs.
-use Rattle.std.specs.Prelude.{ℕ, ◌*◌, ◌≤◌, ◌≡◌, List, ◌++◌, map, length, take, drop}
+use Rattle.std.specs.Prelude.{ℕ, ◌*◌, ◌≤◌, ◌≡◌, List, ◌++◌, map, length, take}
 use Rattle.rules.specs.Bounds.{most_procs}
 use Rattle.rules.specs.Settings as rules
 use Rattle.rules.specs.Step.{code, join, Event}
 use Rattle.rules.specs.Machines.{machine}
-use Rattle.laws.specs.Laws.{Prefix, of, InLine, BeginsWith, LockFile, events_of, ComesNext, AtMost, most_references}
+use Rattle.rules.specs.Calls.{over}
+use Rattle.laws.specs.Laws.{Prefix, of, InLine, NamesLock, BeginsWith, LockFile, events_of, ComesNext, AtMost, most_references}
 use Rattle.settings.specs.View.{settings_of}
 use Rattle.settings.specs.declared.Settings.{Settings}
 use Rattle.machine.specs.RunView.{record_of, Ran}
@@ -23,7 +24,7 @@ pub record FileRun : Type 0 where
   pub answer : ReadAnswer
   pub read : ReadIs file schedule after answer
   pub accepted : answer.number ≡ 0
-  pub lock : LockFile file
+  pub lock : NamesLock (settings_of answer.settings)
   pub before : List ℕ
   pub events : List ℕ
   pub blank : List Record
@@ -39,23 +40,27 @@ said f = events_of (settings_of f.answer.settings) (take f.answer.count f.after)
 pub record Demand (f : FileRun) (s : rules.Settings) (turns : List ℕ) : Type 0 where
   pub row : take f.given.events f.events ≡ map code (said f)
   pub line : (t u : List ℕ) → t ++ u ≡ turns → InLine (machine s.algo) s t
-  pub four : BeginsWith "algo=mcs\n" f.file → AtMost most_references (take s.procs (map record_of f.table))
+  pub four : s.algo ≡ 2 → AtMost most_references (take s.procs (map record_of f.table))
 
 pub record Entries : Type 0 where
   -- what read accepted, write with enough room gives back byte for byte
   pub read_write : (file schedule after out out' : List ℕ) (r : ReadAnswer) (w : Written) → ReadIs file schedule after r → r.number ≡ 0
       → length file ≤ length out → WriteIs (settings_of r.settings) (take r.count after) out out' w
-      → (w.number ≡ 0) × (w.count ≡ length file) × (out' ≡ file ++ drop (length file) out)
+      → (w.number ≡ 0) × (w.count ≡ length file) × (out' ≡ over file out)
   -- what write accepted, read gives back, settings and schedule
   pub write_read : (s : Settings) (turns out out' schedule after : List ℕ) (w : Written) (r : ReadAnswer) → length s.rounds ≡ most_procs
       → length s.hold ≡ most_procs → WriteIs (settings_of s) turns out out' w → w.number ≡ 0 → length turns ≤ length schedule
       → ReadIs (take w.count out') schedule after r
-      → (r.number ≡ 0) × (settings_of r.settings ≡ settings_of s) × (r.count ≡ length turns) × (after ≡ turns ++ drop (length turns) schedule)
-  -- what read accepted, run with enough room accepts
-  pub read_run : (file schedule after before events : List ℕ) (blank table : List Record) (r : ReadAnswer) (given : Answer) → ReadIs file schedule after r
-      → r.number ≡ 0 → r.settings.procs ≤ length blank → 2 * r.count ≤ length before
-      → Ran (settings_of r.settings) (take r.count after) before events blank table given → given.number ≡ 0
+      → (r.number ≡ 0) × (settings_of r.settings ≡ settings_of s) × (r.count ≡ length turns) × (after ≡ over turns schedule)
   -- for every file that read accepts and that names a lock, the run that run promises keeps demand 3
   pub files_line : (f : FileRun) → Demand f (settings_of f.answer.settings) (take f.answer.count f.after)
   -- two such runs, the joins of the one a beginning of the other's, never disagree on who comes next
   pub files_agree : (f g : FileRun) → Prefix (of join (said f)) (of join (said g)) → (k x y : ℕ) → ComesNext k x (said f) → ComesNext k y (said g) → x ≡ y
+  -- a file that read accepts names a lock where its first line is that of ticket or of mcs, and the queue lock where it is that of mcs
+  pub named_lock : (file schedule after : List ℕ) (r : ReadAnswer) → ReadIs file schedule after r → r.number ≡ 0 → LockFile file → NamesLock (settings_of r.settings)
+  pub named_mcs : (file schedule after : List ℕ) (r : ReadAnswer) → ReadIs file schedule after r → r.number ≡ 0 → BeginsWith "algo=mcs\n" file
+      → r.settings.algo ≡ 2
+  -- what read accepted, run with enough room accepts
+  pub read_run : (file schedule after before events : List ℕ) (blank table : List Record) (r : ReadAnswer) (given : Answer) → ReadIs file schedule after r
+      → r.number ≡ 0 → r.settings.procs ≤ length blank → 2 * r.count ≤ length before
+      → Ran (settings_of r.settings) (take r.count after) before events blank table given → given.number ≡ 0

@@ -12,7 +12,7 @@ use Rattle.rules.specs.Memory.{pick, upd, each}
 use Rattle.rules.specs.Settings.{Settings}
 use Rattle.rules.specs.Step.{Manner, read, write, Access, made, reads, writes, remote, nothing, one, two, arrive, leave, again, to, Step}
 use Rattle.rules.specs.Course.{Course, outset, holding}
-use Rattle.rules.specs.Tree.{State, parent, slot, child, left, right, goes_on, leaves, wakes_next, reading, looks, sets, tells, waits, woken, does, step, machine}
+use Rattle.rules.specs.Tree.{State, parent, slot, child, left, right, goes_on, leaves, wakes_next, reading, looks, tells, waits, woken, does, step, machine}
 use Rattle.rules.proofs.Store.{upd_same, upd_other, either, by_test}
 use Rattle.rules.proofs.Turned.{Told, told_step}
 use Rattle.turns.specs.declared.course.Due.{Due}

@@ -1,0 +1,16 @@
+-- `dissem::playing::play` meets its contract.
+use mathlib.Core.Path.{◌≡◌}
+use Prim.Native.Nat.{◌-◌}
+use lib.ListN.{length}
+use Rattle.rules.specs.Dissem.{machine, doublings}
+use Rattle.settings.specs.View.{settings_of}
+use Rattle.dissem.specs.DissemView.{state_of, course_in, Sound}
+use Rattle.turns.proofs.Looping.{Held}
+use Rattle.dissem.proofs.playing.play.Given as goal
+
+abbrev pub invariant-loop-k : goal.invariant-loop-k
+invariant-loop-k l =
+    Held machine (settings_of l.s) l.schedule l.initial.events l.events (state_of l.machine) (course_in l.machine) l.sums l.total l.n l.k × Sound l.levels (state_of l.machine) (course_in l.machine) × (l.levels ≡ doublings l.s.procs)
+
+abbrev pub decreases-loop-k : goal.decreases-loop-k
+decreases-loop-k l = length l.schedule - l.k

@@ -1,0 +1,18 @@
+-- `mcs::playing::play` meets its contract.
+use borrow.Author.Rules.{rules}
+use mathlib.Core.Path.{refl}
+use Prim.Native.Nat.{◌-◌}
+use native.Mathlib.Omega.{arith}
+use lib.ListN.{length}
+use Rattle.rules.specs.Mcs.{machine}
+use Rattle.settings.specs.View.{settings_of}
+use Rattle.mcs.specs.McsView.{state_of, course_in, Sound}
+use Rattle.turns.proofs.Looping.{Held, Known, held_first, held_known, held_all, Made, held_made}
+use Rattle.mcs.proofs.playing.play.Given as goal
+
+abbrev pub invariant-loop-k : goal.invariant-loop-k
+invariant-loop-k l =
+    Held machine (settings_of l.s) l.schedule l.initial.events l.events (state_of l.machine) (course_in l.machine) l.sums l.total l.n l.k × Sound (state_of l.machine)
+
+abbrev pub decreases-loop-k : goal.decreases-loop-k
+decreases-loop-k l = length l.schedule - l.k

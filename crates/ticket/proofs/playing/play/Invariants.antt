@@ -1,0 +1,14 @@
+-- `ticket::playing::play` meets its contract.
+use Rattle.std.proofs.Common.{◌-◌, length}
+use Rattle.rules.specs.Ticket.{machine}
+use Rattle.settings.specs.View.{settings_of}
+use Rattle.ticket.specs.TicketView.{state_of, course_in}
+use Rattle.turns.proofs.Looping.{Held}
+use Rattle.ticket.proofs.playing.play.Given as goal
+
+abbrev pub invariant-loop-k : goal.invariant-loop-k
+invariant-loop-k l =
+    Held machine (settings_of l.s) l.schedule l.initial.events l.events (state_of l.machine) (course_in l.machine) l.sums l.total l.n l.k
+
+abbrev pub decreases-loop-k : goal.decreases-loop-k
+decreases-loop-k l = length l.schedule - l.k

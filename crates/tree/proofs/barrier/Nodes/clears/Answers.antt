@@ -1,0 +1,10 @@
+-- `tree::barrier::Nodes::clears` meets its contract.
+use borrow.Author.Rules.{rules}
+use Rattle.rules.proofs.Views.{Place}
+use Rattle.tree.proofs.TreeNodes.{flag_cleared}
+use Rattle.tree.proofs.barrier.Nodes.clears.Goals as goal
+
+pub returns : goal.returns
+returns c =
+    let p : Place c.args.self.words c.args.i = search rules in
+    flag_cleared p _ _ c.with_bit.ensures

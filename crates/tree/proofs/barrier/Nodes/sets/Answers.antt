@@ -1,0 +1,11 @@
+-- `tree::barrier::Nodes::sets` meets its contract.
+use borrow.Author.Rules.{rules}
+use mathlib.Core.Path.{refl}
+use Rattle.rules.proofs.Views.{Place}
+use Rattle.tree.proofs.TreeNodes.{flags_set}
+use Rattle.tree.proofs.barrier.Nodes.sets.Goals as goal
+
+pub returns : goal.returns
+returns c =
+    let p : Place c.args.self.words c.args.i = search rules in
+    flags_set p _ refl

@@ -1,0 +1,16 @@
+-- `tree::barrier::Nodes::toggles` meets its contract.
+use borrow.Author.Rules.{rules}
+use native.Mathlib.Omega.{arith}
+use Rattle.rules.proofs.Views.{Place}
+use Rattle.turns.proofs.Words.{bit<}
+use Rattle.tree.proofs.TreeNodes.{sense_stored, sense_is}
+use Rattle.tree.proofs.barrier.Nodes.toggles.Goals as goal
+
+pub overflow_sub-bit : goal.overflow_sub-bit
+overflow_sub-bit c =
+    omega (arith, bit< _ _ _ c.bit.ensures)
+
+pub returns : goal.returns
+returns c =
+    let p : Place c.args.self.words c.args.i = search rules in
+    rw (sense_is p _ c.bit.ensures) (sense_stored p _ _ c.with_bit.ensures)

@@ -1,0 +1,8 @@
+-- `turns::bits::bit` meets its contract.
+use borrow.Author.Rules.{rules}
+use Rattle.turns.specs.BitView.{bits}
+use Rattle.turns.proofs.bits.bit.Goals as goal
+
+pub returns : goal.returns
+unfolding bits
+returns c = search rules

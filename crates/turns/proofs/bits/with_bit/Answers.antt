@@ -1,0 +1,14 @@
+-- `turns::bits::with_bit` meets its contract.
+use borrow.Author.Rules.{rules}
+use mathlib.Core.Path.{sym, ◌∙◌}
+use native.Mathlib.Omega.{arith}
+use Rattle.turns.proofs.Words.{bit_kept, bit_changed}
+use Rattle.turns.proofs.bits.with_bit.Goals as goal
+
+pub returns-then-bit-value : goal.returns-then-bit-value
+returns-then-bit-value c =
+    bit_kept _ _ _ (sym c.bit.ensures ∙ search rules)
+
+pub returns : goal.returns
+returns c =
+    bit_changed _ _ _ (search rules) (search rules) (λ e. absurd (omega (arith, c.bit.ensures, e)))

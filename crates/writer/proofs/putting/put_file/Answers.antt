@@ -1,0 +1,6 @@
+-- `writer::putting::put_file` meets its contract.
+use Rattle.writer.proofs.Puts.{room_first, room_second, room_third, put_third}
+use Rattle.writer.proofs.putting.put_file.Goals as goal
+
+pub returns : goal.returns
+returns c = search put_third

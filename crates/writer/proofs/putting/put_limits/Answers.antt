@@ -1,0 +1,6 @@
+-- Two lines, one after the other.
+use Rattle.writer.proofs.Puts.{room_first, room_next, put_then}
+use Rattle.writer.proofs.putting.put_limits.Goals as goal
+
+pub returns : goal.returns
+returns c = search put_then
