@@ -73,3 +73,9 @@ module _ (k i : ℕ) (rounds hold : List ℕ) (s : List ℕ) (p : ℕ) (g : Got 
     pub lines_next : (v w q : ℕ) → r ≡ Of v w q → g ≡ rows (k - (i + 1)) (i + 1) (set rounds i v) (set hold i w) (drop q s) q
     unfolding rows
     lines_next v w q f = rw (e, next) (rw (← le, f))
+
+-- what `line_label` returns
+pub ruleset labels = (label_one, label_two)
+
+-- what `lines` returns
+pub ruleset lines_ways = (lines_end, lines_bad)

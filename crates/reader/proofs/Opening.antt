@@ -96,3 +96,6 @@ name_fits s p q g m p' h =
 -- what the five lines say, where they are accepted
 pub front_small : (s : List ℕ) (o : Opened) → front_of s o ≡ front s 0 → (h : Head) (p : ℕ) → o ≡ Good h p → h.procs ≤ most_procs
 front_small s o e h p f = (exact_front.was s 0 (head_of h) (drop p s) p (sym e ∙ ap (front_of s) f)).1.procs_high
+
+-- what `front` returns
+pub ruleset fronts = (algo_bad, front_name_bad, front_ok)

@@ -24,6 +24,7 @@ pub(crate) enum Opened {
 }
 
 // All five lines.
+#[tactic(auto, using(crate::proofs::Opening::fronts))]
 pub(crate) fn front(file: &[u8]) -> Opened
     ensures { front_of file.now result ≡ front file.now 0 }
 {

@@ -26,6 +26,7 @@ pub(crate) struct Rows {
 }
 
 // `p`, the processor's number and `=`.
+#[tactic(auto, using(crate::proofs::Lining::labels))]
 fn line_label(file: &[u8], i: usize, at: usize) -> Step
     requires { i < most_procs }
     ensures { step_of file.now result ≡ lit (label i) (drop at file.now) at }
@@ -63,6 +64,7 @@ fn entries(file: &[u8], i: usize, at: usize) -> Pair
 }
 
 // The lines of all processors.
+#[tactic(auto, using(crate::proofs::Lining::lines_ways))]
 pub(crate) fn lines(file: &[u8], procs: usize, at: usize) -> Rows
     requires { procs ≤ most_procs }
     ensures { rows_of file.now result ≡ rows procs 0 zeros zeros (drop at file.now) at }

@@ -123,3 +123,9 @@ module _ (l : List ℕ) (lo hi : ℕ) (s : List ℕ) (at : ℕ) (r : Step) (e : 
 
   pub field_number : (p : ℕ) → r ≡ At p → (q : Value) → value_of s q ≡ ranged feed lo hi (drop p s) p → value_of s q ≡ field l lo hi (drop at s) at
   field_number p f q g = rw (← e, f, g)
+
+-- what `digits` keeps and returns
+pub ruleset digits_ways = (digits_short, digits_a, digits_b, digits_full, digits_low, digits_high, digits_on, below_next)
+
+-- what `number` returns
+pub ruleset number_ways = (number_short, number_low, number_high, number_zero, number_more)

@@ -134,3 +134,9 @@ module _ (n at : ℕ) (r : Step) (h : passed n at r) (p : ℕ) (e : r ≡ At p) 
 
   pub took_end : p - 1 ≤ n
   took_end = omega (arith, took)
+
+-- what `word` keeps and returns
+pub ruleset words = (word_short, word_low, word_high, word_starts, letters_short, letters_end, letters_full, letters_low, letters_high, letters_on)
+
+-- what `same` returns
+pub ruleset sames = (same_less, same_more)

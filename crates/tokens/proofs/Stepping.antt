@@ -29,3 +29,6 @@ module _ (bs s : List ℕ) (i p : ℕ) (g : Got (Unit {0})) (e : g ≡ lit (drop
     pub lit_yes : p < length s → get_or s p 0 ≡ get_or bs i 0 → g ≡ lit (drop (i + 1) bs) (drop (p + 1) s) (p + 1)
     unfolding lit
     lit_yes k y = rw (e, drop_next bs i h, drop_next s p k, eq-eqb _ _ y)
+
+-- what `label` keeps and returns
+pub ruleset labels = (lit_end, lit_short, lit_no, lit_yes)

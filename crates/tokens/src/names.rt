@@ -12,6 +12,7 @@ use settings::{CENTRAL, DISSEM, MCS, TICKET, TREE, UNKNOWN};
 const MOST_LETTERS: usize = 8;
 
 // The place after 1 to 8 lower-case letters and their line feed.
+#[tactic(auto, using(crate::proofs::Spelling::words))]
 fn word(file: &[u8], at: usize) -> Step
     ensures result_value { word_of file.now at result ≡ word (drop at file.now) at }
     ensures passed { passed (length file.now) at result }
@@ -51,6 +52,7 @@ fn word(file: &[u8], at: usize) -> Step
 }
 
 // Whether two texts are the same.
+#[tactic(auto, using(crate::proofs::Spelling::sames))]
 fn same(a: &[u8], b: &[u8]) -> bool
     ensures { result ≡ same a.now b.now }
 {

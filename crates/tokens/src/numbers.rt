@@ -11,6 +11,7 @@ use settings::OUTSIDE;
 const MOST_DIGITS: usize = 9;
 
 // The rest of a number whose digits so far say `said`: at most `room` digits more, and then `a` or `b`.
+#[tactic(auto, using(crate::proofs::Numerals::digits_ways))]
 fn digits(file: &[u8], a: u8, b: u8, room: usize, said: usize, at: usize) -> Numeral
     requires room_lt_most_digits { room < most_digits }
     requires said_bound { said < 10 ^ (most_digits - room) }
@@ -46,6 +47,7 @@ fn digits(file: &[u8], a: u8, b: u8, room: usize, said: usize, at: usize) -> Num
 }
 
 // A number that `a` or `b` ends. 0 is written `0`, and no other number starts with 0.
+#[tactic(auto, using(crate::proofs::Numerals::number_ways))]
 pub fn number(file: &[u8], a: u8, b: u8, at: usize) -> Numeral
     ensures { numeral_of file.now result ≡ number a b (drop at file.now) at }
 {

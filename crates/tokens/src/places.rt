@@ -28,6 +28,7 @@ pub enum Value {
 }
 
 // Exactly the bytes of the label, from a place on.
+#[tactic(auto, using(crate::proofs::Stepping::labels))]
 pub fn label(file: &[u8], label: &[u8], at: usize) -> Step
     ensures { step_of file.now result ≡ lit label.now (drop at file.now) at }
 {
