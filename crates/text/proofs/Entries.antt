@@ -1,28 +1,18 @@
 -- The entries keep what the laws say of the rules: each follows from a promise, which is an equation with the rules, and a law.
 use mathlib.Core.Path.{◌≡◌, sym, ap, ◌∙◌, subst}
-use mathlib.Core.List.{List, ◌++◌, map}
-use Prim.Native.Nat.{ℕ, ◌*◌, ◌≤◌}
+use mathlib.Core.List.{List, map}
+use Prim.Native.Nat.{ℕ}
 use native.Mathlib.Omega.{arith}
 use lib.ListN.{length, take, length-map}
 use lib.Seq.{take-append_seam}
-use Rattle.rules.specs.Bounds.{most_procs}
 use Rattle.rules.specs.Settings as rules
 use Rattle.rules.specs.Step.{code}
-use Rattle.rules.specs.Play.{Run}
-use Rattle.rules.specs.Machines.{machine}
 use Rattle.rules.specs.Calls as calls
 use Rattle.rules.specs.Calls.{over, accepted_run}
-use Rattle.laws.specs.Laws.{InLine, Accepts, AtMost, most_references}
+use Rattle.laws.specs.Laws.{Accepts}
 use Rattle.laws.proofs.All.{all_laws}
 use Rattle.settings.specs.View.{settings_of}
-use Rattle.settings.specs.declared.Settings.{Settings}
-use Rattle.machine.specs.RunView.{record_of, Ran}
-use Rattle.machine.specs.declared.table.Record.{Record}
-use Rattle.machine.specs.declared.table.Answer.{Answer}
-use Rattle.reader.specs.declared.reading.ReadAnswer.{ReadAnswer}
-use Rattle.reader.specs.ReadView.{ReadIs}
-use Rattle.writer.specs.declared.writing.Written.{Written}
-use Rattle.writer.specs.WriteView.{WriteIs}
+use Rattle.machine.specs.RunView.{record_of}
 use Rattle.text.specs.Entries.{FileRun, said, Demand, Entries}
 
 -- a run of a file that names a lock

@@ -1,8 +1,7 @@
 -- `machine::decide::core` meets its contract: each return is one way out.
-use Rattle.std.proofs.Common.{◌≡◌, ℕ, length, true, sym, ◌∙◌, arith, rules}
+use Rattle.std.proofs.Common.{◌≡◌, true, sym, ◌∙◌, rules}
 use Rattle.rules.specs.Machines.{machine}
 use Rattle.rules.specs.Calls.{refusal}
-use Rattle.rules.proofs.Accepted.{accepted}
 use Rattle.settings.specs.View.{settings_of}
 use Rattle.turns.specs.PlayView.{PlayedIs}
 use Rattle.machine.proofs.Deciding.{core_refused, core_few_records, core_few_events, core_ready, core_by, core_played, core_last}

@@ -1,13 +1,10 @@
 -- `mcs::playing::play` meets its contract.
-use borrow.Author.Rules.{rules}
-use mathlib.Core.Path.{refl}
 use Prim.Native.Nat.{◌-◌}
-use native.Mathlib.Omega.{arith}
 use lib.ListN.{length}
 use Rattle.rules.specs.Mcs.{machine}
 use Rattle.settings.specs.View.{settings_of}
 use Rattle.mcs.specs.McsView.{state_of, course_in, Sound}
-use Rattle.turns.proofs.Looping.{Held, Known, held_first, held_known, held_all, Made, held_made}
+use Rattle.turns.proofs.Looping.{Held}
 use Rattle.mcs.proofs.playing.play.Given as goal
 
 abbrev pub invariant-loop-k : goal.invariant-loop-k

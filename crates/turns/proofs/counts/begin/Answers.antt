@@ -1,5 +1,4 @@
 -- `turns::counts::begin` meets its contract.
-use borrow.Author.Rules.{rules}
 use mathlib.Core.Path.{refl}
 use Rattle.turns.proofs.counts.begin.Goals as goal
 

@@ -1,5 +1,4 @@
 -- `turns::counts::count` meets its contract.
-use borrow.Author.Rules.{rules}
 use Rattle.turns.proofs.Counting.{room_far, room_kind, counted_all}
 use Rattle.turns.proofs.counts.count.Goals as goal
 

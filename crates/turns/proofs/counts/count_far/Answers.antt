@@ -1,5 +1,4 @@
 -- `turns::counts::count_far` meets its contract.
-use borrow.Author.Rules.{rules}
 use borrow.Author.Tests.{eq-eqb, ne_eqb}
 use mathlib.Core.Path.{refl}
 use native.Mathlib.Omega.{arith}

@@ -1,5 +1,4 @@
 -- `turns::counts::count_kind` meets its contract.
-use borrow.Author.Rules.{rules}
 use mathlib.Core.Path.{refl}
 use Rattle.turns.proofs.counts.count_kind.Goals as goal
 

@@ -1,5 +1,4 @@
 -- `turns::counts::note` meets its contract: its stores are those of `sets`.
-use borrow.Author.Rules.{rules}
 use borrow.Author.Tests.{eq-eqb, ne_eqb}
 use native.Mathlib.Omega.{arith}
 use native.Mathlib.Numerals.{add-one}

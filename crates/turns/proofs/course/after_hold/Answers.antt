@@ -1,5 +1,4 @@
 -- `turns::course::after_hold` meets its contract.
-use borrow.Author.Rules.{rules}
 use borrow.Author.Tests.{eq-eqb, ne_eqb}
 use mathlib.Core.Path.{refl}
 use Rattle.turns.proofs.course.after_hold.Goals as goal

@@ -1,5 +1,4 @@
 -- `turns::made::going` meets its contract.
-use borrow.Author.Rules.{rules}
 use mathlib.Core.Path.{refl}
 use Rattle.turns.proofs.made.going.Goals as goal
 

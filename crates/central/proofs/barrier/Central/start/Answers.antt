@@ -1,5 +1,4 @@
 -- `central::barrier::Central::start` meets its contract.
-use borrow.Author.Rules.{rules}
 use mathlib.Core.Path.{refl, sym}
 use Rattle.rules.proofs.Views.{view_blank}
 use Rattle.central.proofs.CentralTurns.{same_state}

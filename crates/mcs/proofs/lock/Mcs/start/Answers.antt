@@ -1,5 +1,4 @@
 -- `mcs::lock::Mcs::start` meets its contract.
-use borrow.Author.Rules.{rules}
 use mathlib.Core.Path.{refl}
 use Rattle.rules.proofs.Views.{view_blank}
 use Rattle.mcs.proofs.McsTurns.{same_state, sound_blank}

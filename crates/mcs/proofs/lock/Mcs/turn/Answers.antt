@@ -6,7 +6,6 @@ use native.Mathlib.Omega.{arith}
 use Rattle.rules.specs.Mcs.{machine}
 use Rattle.rules.proofs.Views.{view}
 use Rattle.turns.specs.View.{course_of, told_of}
-use Rattle.mcs.specs.McsView.{state_of}
 use Rattle.turns.proofs.Courses.{held_some}
 use Rattle.turns.proofs.Turning.{turns_hold, turns_idle, told_none}
 use Rattle.mcs.proofs.McsTurns.{here, mcs_clears, mcs_takes, mcs_joins, mcs_locks, mcs_links, mcs_granted, mcs_spins, mcs_alone, mcs_finds, mcs_drains, mcs_fails, mcs_rereads, mcs_wakes}

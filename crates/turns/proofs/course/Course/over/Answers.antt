@@ -1,5 +1,4 @@
 -- `turns::course::Course::over` meets its contract.
-use borrow.Author.Rules.{rules}
 use mathlib.Core.Path.{ap, ◌∙◌}
 use Rattle.turns.specs.View.{gone_to}
 use Rattle.turns.proofs.course.Course.over.Goals as goal
