@@ -1,12 +1,25 @@
 // Numbers in columns: each has five columns and a separator, so that the number at a place is found without reading those before it.
-ghost use Rattle.std.specs.Prelude.{◌≤◌};
+ghost use Rattle.std.specs.Prelude.{◌≤◌, length};
 
 use settings::{MOST_PROCS, Settings};
+use std::io;
+use std::io::{Cursor, Read};
 use std::num::wrapping_add_usize;
 
 const WIDTH: usize = 6;
 
 const MOST_NUMBERS: usize = 100000;
+
+// Reads until the buffer is full, the input ends or a read fails, and answers how many bytes it put at the start of the buffer.
+pub(crate) fn read_full(rt: &impl Input, text: &mut [u8]) -> usize
+    ensures { result ≤ length text.new }
+{
+    let most = text.len();
+    let mut reader = rt.reader().take(most as u64);
+    let mut room = Cursor::new(text);
+    let _ = io::copy(&mut reader, &mut room);
+    most.min(room.position() as usize)
+}
 
 // A blank counts as 0.
 fn digit(b: u8) -> u32
@@ -22,7 +35,7 @@ fn digit(b: u8) -> u32
 }
 
 // The number at a place, 0 past the end.
-pub(crate) fn number(text: &[u8], place: usize) -> u32
+pub fn number(text: &[u8], place: usize) -> u32
     ensures { result ≤ 99999 }
 {
     if place >= MOST_NUMBERS {
@@ -37,7 +50,7 @@ pub(crate) fn number(text: &[u8], place: usize) -> u32
     high * 100 + low
 }
 
-fn small(text: &[u8], place: usize) -> u16 {
+pub fn small(text: &[u8], place: usize) -> u16 {
     let n = number(text, place);
     if n > 65535 {
         return 65535;
@@ -45,14 +58,14 @@ fn small(text: &[u8], place: usize) -> u16 {
     n as u16
 }
 
-pub(crate) fn size(text: &[u8], place: usize) -> usize
+pub fn size(text: &[u8], place: usize) -> usize
     ensures { result ≤ 99999 }
 {
     number(text, place) as usize
 }
 
 // The place after a count and the row that it counts.
-pub(crate) fn after_row(text: &[u8], place: usize) -> usize {
+pub fn after_row(text: &[u8], place: usize) -> usize {
     wrapping_add_usize(wrapping_add_usize(place, 1), size(text, place))
 }
 
@@ -71,7 +84,7 @@ fn row_at(text: &[u8], place: usize) -> [u16; MOST_PROCS] {
 }
 
 // algo, procs, home, ticket, budget, the row of rounds and the row of hold.
-pub(crate) fn settings_at(text: &[u8], place: usize) -> Settings {
+pub fn settings_at(text: &[u8], place: usize) -> Settings {
     let rounds_at = wrapping_add_usize(place, 5);
     let rounds = row_at(text, rounds_at);
     let hold = row_at(text, after_row(text, rounds_at));
@@ -87,7 +100,7 @@ pub(crate) fn settings_at(text: &[u8], place: usize) -> Settings {
 }
 
 // The place after the settings.
-pub(crate) fn after_settings(text: &[u8], place: usize) -> usize {
+pub fn after_settings(text: &[u8], place: usize) -> usize {
     after_row(text, after_row(text, wrapping_add_usize(place, 5)))
 }
 
@@ -98,7 +111,7 @@ fn at_least_one(n: usize) -> usize
 }
 
 // Fills the schedule with the row counted at the place, over and over.
-pub(crate) fn set_turns(text: &[u8], place: usize, schedule: &mut [u16]) {
+pub fn set_turns(text: &[u8], place: usize, schedule: &mut [u16]) {
     let count = at_least_one(size(text, place));
     let first = wrapping_add_usize(place, 1);
     let mut k: usize = 0;

@@ -1,53 +1,57 @@
 // The lines that document 01 names, and one before each case.
 use crate::trial::RECORDS;
-use libc::STDOUT_FILENO;
 use machine::{Answer, Record};
 
-fn print_number(n: u64) {
-    io::print_decimal(STDOUT_FILENO, n);
+// What cannot be written is left out.
+pub(crate) fn print(rt: &impl Print, text: &[u8]) {
+    let _ = rt.write_all(text);
 }
 
-fn print_byte(b: u8) {
+fn print_number(rt: &impl Print, n: u64) {
+    let _ = rt.print(n);
+}
+
+fn print_byte(rt: &impl Print, b: u8) {
     let one = [b];
-    io::write_all(STDOUT_FILENO, &one);
+    print(rt, &one);
 }
 
-fn print_line(label: &[u8], n: u64) {
-    io::write_all(STDOUT_FILENO, label);
-    print_number(n);
-    print_byte(b'\n');
+fn print_line(rt: &impl Print, label: &[u8], n: u64) {
+    print(rt, label);
+    print_number(rt, n);
+    print_byte(rt, b'\n');
 }
 
-pub(crate) fn print_case(k: usize) {
-    print_line(b"case=", k as u64);
+pub fn print_case(rt: &impl Print, k: usize) {
+    print_line(rt, b"case=", k as u64);
 }
 
-pub(crate) fn print_refusal(number: u8) {
-    print_line(b"refused=", number as u64);
+pub fn print_refusal(rt: &impl Print, number: u8) {
+    print_line(rt, b"refused=", number as u64);
 }
 
-fn print_record(i: usize, r: Record) {
-    print_byte(b'p');
-    print_number(i as u64);
-    print_byte(b'=');
-    print_number(r.done as u64);
-    print_byte(b',');
-    print_number(r.remote as u64);
-    print_byte(b',');
-    print_number(r.most as u64);
-    print_byte(b',');
-    print_number(r.spins as u64);
-    print_byte(b',');
-    print_number(r.idle as u64);
-    print_byte(b'\n');
+fn print_record(rt: &impl Print, i: usize, r: Record) {
+    print_byte(rt, b'p');
+    print_number(rt, i as u64);
+    print_byte(rt, b'=');
+    print_number(rt, r.done as u64);
+    print_byte(rt, b',');
+    print_number(rt, r.remote as u64);
+    print_byte(rt, b',');
+    print_number(rt, r.most as u64);
+    print_byte(rt, b',');
+    print_number(rt, r.spins as u64);
+    print_byte(rt, b',');
+    print_number(rt, r.idle as u64);
+    print_byte(rt, b'\n');
 }
 
-fn print_records(table: [Record; RECORDS], procs: usize) {
+fn print_records(rt: &impl Print, table: [Record; RECORDS], procs: usize) {
     let mut i: usize = 0;
     while i < RECORDS {
         if i < procs {
             let r = table[i];
-            print_record(i, r);
+            print_record(rt, i, r);
         }
         i += 1;
     }
@@ -64,25 +68,31 @@ fn letter(kind: u16) -> u8 {
     }
 }
 
-fn print_events(events: &[u16]) {
-    io::write_all(STDOUT_FILENO, b"events=");
+fn print_events(rt: &impl Print, events: &[u16]) {
+    print(rt, b"events=");
     let mut k: usize = 0;
     while k < events.len() {
         if k > 0 {
-            print_byte(b',');
+            print_byte(rt, b',');
         }
         let e = events[k];
-        print_byte(letter(e / 256));
-        print_number((e % 256) as u64);
+        print_byte(rt, letter(e / 256));
+        print_number(rt, (e % 256) as u64);
         k += 1;
     }
-    print_byte(b'\n');
+    print_byte(rt, b'\n');
 }
 
-pub(crate) fn print_run(answer: Answer, table: [Record; RECORDS], procs: usize, events: &[u16]) {
-    print_line(b"turns=", answer.turns as u64);
-    print_line(b"stop=", answer.stop as u64);
-    print_line(b"remote=", answer.total as u64);
-    print_records(table, procs);
-    print_events(events);
+pub fn print_run(
+    rt: &impl Print,
+    answer: Answer,
+    table: [Record; RECORDS],
+    procs: usize,
+    events: &[u16],
+) {
+    print_line(rt, b"turns=", answer.turns as u64);
+    print_line(rt, b"stop=", answer.stop as u64);
+    print_line(rt, b"remote=", answer.total as u64);
+    print_records(rt, table, procs);
+    print_events(rt, events);
 }

@@ -10,7 +10,6 @@ mod trial;
 
 ghost use Rattle.std.specs.Prelude.{◌≤◌};
 
-use libc::STDOUT_FILENO;
 use machine::{Answer, Tallied};
 use std::num::wrapping_add_usize;
 use trial::MARK;
@@ -45,36 +44,43 @@ fn is_bare(a: Answer) -> bool {
 }
 
 // The records and events that had to be written are printed; the rest had to stay.
-fn show(t: Tallied, procs: usize, events: &[u16]) {
+fn show(rt: &impl Print, t: Tallied, procs: usize, events: &[u16]) {
     let answer = t.answer;
     let table = t.table;
     let written = at_most(answer.events, events.len());
     let mut records = 0;
     if answer.number == 0 {
         records = procs;
-        lines::print_run(answer, table, procs, &events[0..written]);
+        lines::print_run(rt, answer, table, procs, &events[0..written]);
     } else {
-        lines::print_refusal(answer.number);
+        lines::print_refusal(rt, answer.number);
         if !is_bare(answer) {
-            io::write_all(STDOUT_FILENO, b"not bare\n");
+            lines::print(rt, b"not bare\n");
         }
     }
     if !is_marked(&events[written..]) || !trial::is_marked_from(table, records) {
-        io::write_all(STDOUT_FILENO, b"touched\n");
+        lines::print(rt, b"touched\n");
     }
 }
 
 // Plays the case whose records and settings are at a place, in rows that are lent for it.
-fn play_in(text: &[u8], place: usize, turns_at: usize, schedule: &mut [u16], events: &mut [u16]) {
+fn play_in(
+    rt: &impl Print,
+    text: &[u8],
+    place: usize,
+    turns_at: usize,
+    schedule: &mut [u16],
+    events: &mut [u16],
+) {
     let records = input::size(text, place);
     let s = input::settings_at(text, wrapping_add_usize(place, 1));
     input::set_turns(text, turns_at, schedule);
     let t = trial::run_over(s, schedule, events, records);
-    show(t, s.procs as usize, events);
+    show(rt, t, s.procs as usize, events);
 }
 
 // Plays the case at a place and answers the place of the next.
-fn play(text: &[u8], place: usize) -> usize {
+fn play(rt: &impl Print, text: &[u8], place: usize) -> usize {
     let records_at = wrapping_add_usize(place, 1);
     let turns_at = input::after_settings(text, wrapping_add_usize(records_at, 1));
     let row_at = wrapping_add_usize(turns_at, 1);
@@ -83,6 +89,7 @@ fn play(text: &[u8], place: usize) -> usize {
     let mut schedule = [0u16; TURNS];
     let mut events = [MARK; ROOM];
     play_in(
+        rt,
         text,
         records_at,
         row_at,
@@ -92,19 +99,19 @@ fn play(text: &[u8], place: usize) -> usize {
     input::after_row(text, row_at)
 }
 
-fn play_all(text: &[u8]) {
+fn play_all(rt: &impl Print, text: &[u8]) {
     let cases = input::size(text, 0);
     let mut place: usize = 1;
     let mut k: usize = 0;
     while k < cases {
-        lines::print_case(k);
-        place = play(text, place);
+        lines::print_case(rt, k);
+        place = play(rt, text, place);
         k += 1;
     }
 }
 
-fn main() {
+fn main(rt: HostRuntime) {
     let mut text = [0u8; MOST_BYTES];
-    let n = io::read_full(0, &mut text);
-    play_all(&text[..n]);
+    let n = input::read_full(&rt, &mut text);
+    play_all(&rt, &text[..n]);
 }

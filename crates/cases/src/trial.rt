@@ -2,9 +2,9 @@
 use machine::{Record, Tallied};
 use settings::Settings;
 
-pub(crate) const RECORDS: usize = 64;
+pub const RECORDS: usize = 64;
 
-pub(crate) const MARK: u16 = 9999;
+pub const MARK: u16 = 9999;
 
 fn marked() -> [Record; RECORDS] {
     let marked = Record {
@@ -22,7 +22,7 @@ fn is_marked(r: Record) -> bool {
 }
 
 // Whether the records from a place on hold the mark.
-pub(crate) fn is_marked_from(table: [Record; RECORDS], from: usize) -> bool {
+pub fn is_marked_from(table: [Record; RECORDS], from: usize) -> bool {
     let mut i: usize = 0;
     while i < RECORDS {
         if i >= from {
@@ -37,7 +37,7 @@ pub(crate) fn is_marked_from(table: [Record; RECORDS], from: usize) -> bool {
 }
 
 // room: how many records are lent. The table comes back whole, also what was not lent.
-pub(crate) fn run_over(s: Settings, schedule: &[u16], events: &mut [u16], room: usize) -> Tallied {
+pub fn run_over(s: Settings, schedule: &[u16], events: &mut [u16], room: usize) -> Tallied {
     let table = marked();
     machine::tallies(s, schedule, events, table, room)
 }

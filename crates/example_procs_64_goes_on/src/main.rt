@@ -1,6 +1,6 @@
 // A settings file on standard input is played, and what it gives is printed on standard output.
 #![tactic(auto)]
 
-fn main() {
-    player::play();
+fn main(rt: HostRuntime) {
+    player::play(&rt);
 }

@@ -1,10 +1,11 @@
 // From standard input to standard output.
-ghost use Rattle.std.specs.Prelude.{◌≤◌};
+ghost use Rattle.std.specs.Prelude.{◌≤◌, length};
 
 use crate::lines;
-use libc::{STDIN_FILENO, STDOUT_FILENO};
 use machine::Record;
 use settings::{ACCEPTED, MOST_PROCS, MOST_TURNS, Settings};
+use std::io;
+use std::io::{Cursor, Read};
 
 // Longer input is cut here. No answer of `read` depends on a byte past the first 50046.
 const MOST_BYTES: usize = 65536;
@@ -46,19 +47,30 @@ fn file_lines(file: &[u8], schedule: &mut [u16], events: &mut [u16], out: &mut [
     run_lines(s, &schedule[0..n], events, out)
 }
 
-// Writes the first bytes of a buffer.
-fn print(out: &[u8], count: usize) {
+// Reads until the buffer is full, the input ends or a read fails, and answers how many bytes it put at the start of the buffer.
+fn read_full(rt: &impl Input, file: &mut [u8]) -> usize
+    ensures { result ≤ length file.new }
+{
+    let most = file.len();
+    let mut reader = rt.reader().take(most as u64);
+    let mut room = Cursor::new(file);
+    let _ = io::copy(&mut reader, &mut room);
+    most.min(room.position() as usize)
+}
+
+// Writes the first bytes of a buffer. What cannot be written is left out.
+fn print(rt: &impl Print, out: &[u8], count: usize) {
     let n = at_most(count, out.len());
-    io::write_all(STDOUT_FILENO, &out[0..n]);
+    let _ = rt.write_all(&out[0..n]);
 }
 
 // All lines are gathered and written at once.
-pub fn play() {
+pub fn play(rt: &(impl Input + Print)) {
     let mut file = [0u8; MOST_BYTES];
     let mut schedule = [0u16; MOST_TURNS];
     let mut events = [0u16; MOST_EVENTS];
     let mut out = [0u8; MOST_LINES];
-    let n = io::read_full(STDIN_FILENO, &mut file);
+    let n = read_full(rt, &mut file);
     let count = file_lines(&file[..n], &mut schedule, &mut events, &mut out);
-    print(&out, count);
+    print(rt, &out, count);
 }

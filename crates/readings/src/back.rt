@@ -2,7 +2,7 @@
 use settings::{ACCEPTED, Settings, TOO_SHORT};
 
 // A byte that no file has.
-pub(crate) const BLANK: u8 = 238;
+pub const BLANK: u8 = 238;
 
 fn is_blank(row: &[u8]) -> bool {
     let mut k: usize = 0;
@@ -46,7 +46,7 @@ fn is_written(s: Settings, schedule: &[u16], file: &[u8], out: &mut [u8]) -> boo
 }
 
 // out: blank bytes.
-pub(crate) fn is_back(s: Settings, schedule: &[u16], file: &[u8], out: &mut [u8]) -> bool {
+pub fn is_back(s: Settings, schedule: &[u16], file: &[u8], out: &mut [u8]) -> bool {
     let n = file.len();
     if n == 0 {
         return false;

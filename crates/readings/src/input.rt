@@ -1,6 +1,8 @@
 // Numbers of five columns, and files in parts. A byte past the end is 0.
-ghost use Rattle.std.specs.Prelude.{◌≤◌};
+ghost use Rattle.std.specs.Prelude.{◌≤◌, length};
 
+use std::io;
+use std::io::{Cursor, Read};
 use std::num::wrapping_add_usize;
 
 // Five columns and a separator.
@@ -9,12 +11,23 @@ const WIDTH: usize = 6;
 // What is said of a file before its bytes: the schedule's room, and the lengths of the parts. The row is said over and over until the
 // middle is full.
 #[derive(Clone, Copy)]
-pub(crate) struct Parts {
-    pub(crate) room: usize,
-    pub(crate) head: usize,
-    pub(crate) row: usize,
-    pub(crate) middle: usize,
-    pub(crate) tail: usize,
+pub struct Parts {
+    pub room: usize,
+    pub head: usize,
+    pub row: usize,
+    pub middle: usize,
+    pub tail: usize,
+}
+
+// Reads until the buffer is full, the input ends or a read fails, and answers how many bytes it put at the start of the buffer.
+pub(crate) fn read_full(rt: &impl Input, given: &mut [u8]) -> usize
+    ensures { result ≤ length given.new }
+{
+    let most = given.len();
+    let mut reader = rt.reader().take(most as u64);
+    let mut room = Cursor::new(given);
+    let _ = io::copy(&mut reader, &mut room);
+    most.min(room.position() as usize)
 }
 
 fn byte(given: &[u8], at: usize) -> u8 {
@@ -36,7 +49,7 @@ fn digit(given: &[u8], at: usize) -> usize
 }
 
 // The number in the columns from a place on.
-pub(crate) fn number(given: &[u8], at: usize) -> usize
+pub fn number(given: &[u8], at: usize) -> usize
     ensures { result ≤ 99999 }
 {
     let a = digit(given, at);
@@ -48,11 +61,11 @@ pub(crate) fn number(given: &[u8], at: usize) -> usize
 }
 
 // The place after a number and its separator.
-pub(crate) fn after_number(at: usize) -> usize {
+pub fn after_number(at: usize) -> usize {
     wrapping_add_usize(at, WIDTH)
 }
 
-pub(crate) fn parts_at(given: &[u8], at: usize) -> Parts {
+pub fn parts_at(given: &[u8], at: usize) -> Parts {
     let head_at = after_number(at);
     let row_at = after_number(head_at);
     let middle_at = after_number(row_at);
@@ -67,16 +80,16 @@ pub(crate) fn parts_at(given: &[u8], at: usize) -> Parts {
 }
 
 // The place of the first byte after the five numbers.
-pub(crate) fn after_parts(at: usize) -> usize {
+pub fn after_parts(at: usize) -> usize {
     wrapping_add_usize(at, 5 * WIDTH)
 }
 
-pub(crate) fn file_length(p: Parts) -> usize {
+pub fn file_length(p: Parts) -> usize {
     wrapping_add_usize(wrapping_add_usize(p.head, p.middle), p.tail)
 }
 
 // The place after the bytes of a file and the line feed that follows them.
-pub(crate) fn after_file(p: Parts, at: usize) -> usize {
+pub fn after_file(p: Parts, at: usize) -> usize {
     let stored = wrapping_add_usize(wrapping_add_usize(p.head, p.row), p.tail);
     wrapping_add_usize(wrapping_add_usize(at, stored), 1)
 }
@@ -103,7 +116,7 @@ fn source(p: Parts, k: usize) -> usize {
 }
 
 // Fills the file from the parts that are stored from a place on.
-pub(crate) fn set_file(given: &[u8], at: usize, p: Parts, file: &mut [u8]) {
+pub fn set_file(given: &[u8], at: usize, p: Parts, file: &mut [u8]) {
     let mut k: usize = 0;
     while k < file.len() {
         file[k] = byte(given, wrapping_add_usize(at, source(p, k)));

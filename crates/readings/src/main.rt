@@ -13,7 +13,6 @@ ghost use Rattle.std.specs.Prelude.{◌≤◌};
 
 use back::BLANK;
 use input::Parts;
-use libc::STDOUT_FILENO;
 use settings::{MOST_PROCS, Settings};
 use text::ReadAnswer;
 
@@ -75,25 +74,25 @@ fn written_of(number: u8, count: usize, room: usize) -> usize
 }
 
 // The turns that had to be written are printed; the rest had to stay.
-fn show(a: ReadAnswer, schedule: &[u16]) {
+fn show(rt: &impl Print, a: ReadAnswer, schedule: &[u16]) {
     let s = a.settings;
     let written = written_of(a.number, a.count, schedule.len());
     if a.number == 0 {
-        lines::print_settings(s);
-        lines::print_turns(a.count, &schedule[0..written]);
+        lines::print_settings(rt, s);
+        lines::print_turns(rt, a.count, &schedule[0..written]);
     } else {
-        lines::print_refusal(a.number, a.place);
+        lines::print_refusal(rt, a.number, a.place);
     }
     if !is_bare(a) {
-        io::write_all(STDOUT_FILENO, b"not bare\n");
+        lines::print(rt, b"not bare\n");
     }
     if !holds_only(&schedule[written..], MARK) {
-        io::write_all(STDOUT_FILENO, b"touched\n");
+        lines::print(rt, b"touched\n");
     }
 }
 
 // Writes back what was accepted.
-fn write_back(a: ReadAnswer, schedule: &[u16], file: &[u8]) {
+fn write_back(rt: &impl Print, a: ReadAnswer, schedule: &[u16], file: &[u8]) {
     let s = a.settings;
     if a.number != 0 {
         return;
@@ -101,43 +100,57 @@ fn write_back(a: ReadAnswer, schedule: &[u16], file: &[u8]) {
     let mut out = [BLANK; MOST_BACK];
     let written = at_most(a.count, schedule.len());
     if !back::is_back(s, &schedule[0..written], file, &mut out) {
-        io::write_all(STDOUT_FILENO, b"not back\n");
+        lines::print(rt, b"not back\n");
     }
 }
 
 // Reads the file whose bytes are stored from a place on, in a row and a schedule that are lent for it.
-fn read_in(given: &[u8], at: usize, p: Parts, file: &mut [u8], schedule: &mut [u16]) {
+fn read_in(
+    rt: &impl Print,
+    given: &[u8],
+    at: usize,
+    p: Parts,
+    file: &mut [u8],
+    schedule: &mut [u16],
+) {
     input::set_file(given, at, p, file);
     let a = text::read(file, schedule);
-    show(a, schedule);
-    write_back(a, schedule, file);
+    show(rt, a, schedule);
+    write_back(rt, a, schedule, file);
 }
 
 // Reads the file at a place and answers the place of the next.
-fn read_at(given: &[u8], place: usize) -> usize {
+fn read_at(rt: &impl Print, given: &[u8], place: usize) -> usize {
     let p = input::parts_at(given, place);
     let at = input::after_parts(place);
     let length = at_most(input::file_length(p), MOST_LENGTH);
     let room = at_most(p.room, MOST_ROOM);
     let mut file = [0u8; MOST_LENGTH];
     let mut schedule = [MARK; MOST_ROOM];
-    read_in(given, at, p, &mut file[0..length], &mut schedule[0..room]);
+    read_in(
+        rt,
+        given,
+        at,
+        p,
+        &mut file[0..length],
+        &mut schedule[0..room],
+    );
     input::after_file(p, at)
 }
 
-fn read_all(given: &[u8]) {
+fn read_all(rt: &impl Print, given: &[u8]) {
     let files = input::number(given, 0);
     let mut place = input::after_number(0);
     let mut k: usize = 0;
     while k < files {
-        lines::print_file(k);
-        place = read_at(given, place);
+        lines::print_file(rt, k);
+        place = read_at(rt, given, place);
         k += 1;
     }
 }
 
-fn main() {
+fn main(rt: HostRuntime) {
     let mut given = [0u8; MOST_BYTES];
-    let n = io::read_full(0, &mut given);
-    read_all(&given[..n]);
+    let n = input::read_full(&rt, &mut given);
+    read_all(&rt, &given[..n]);
 }

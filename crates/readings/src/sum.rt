@@ -12,7 +12,7 @@ fn next(sum: u32, n: u16) -> u32
     (sum * 257 + n as u32 + 1) % MODULUS
 }
 
-pub(crate) fn sum(row: &[u16]) -> u32
+pub fn sum(row: &[u16]) -> u32
     ensures { result ≤ 65520 }
 {
     let mut s: u32 = 0;
@@ -24,7 +24,7 @@ pub(crate) fn sum(row: &[u16]) -> u32
     s
 }
 
-pub(crate) fn sum_of_row(row: [u16; MOST_PROCS]) -> u32
+pub fn sum_of_row(row: [u16; MOST_PROCS]) -> u32
     ensures { result ≤ 65520 }
 {
     sum(&row)
