@@ -14,8 +14,15 @@ fn example(name: &str, file: String, output: String) -> Example {
     Example { name: name.to_string(), file: file.into_bytes(), output: output.into_bytes() }
 }
 
-/// Every `name.txt` of the directory with its `name.out`, in order of name.
+/// The kept examples: those of the directory and those of `long` in it.
 pub fn kept(directory: &Path) -> Result<Vec<Example>, String> {
+    let mut examples = kept_in(directory)?;
+    examples.extend(kept_in(&directory.join("long"))?);
+    Ok(examples)
+}
+
+/// Every `name.txt` of the directory with its `name.out`, in order of name.
+fn kept_in(directory: &Path) -> Result<Vec<Example>, String> {
     let fault = |path: &Path, fault: std::io::Error| format!("{}: {fault}", path.display());
     let mut paths = Vec::new();
     for entry in fs::read_dir(directory).map_err(|error| fault(directory, error))? {
