@@ -21,7 +21,7 @@ fn at_most(n: usize, most: usize) -> usize
     if n > most { most } else { n }
 }
 
-// Runs what read accepted, so run accepts it too (`read-run`, crates/text/specs/Entries.antt).
+// Runs what read accepted, so run accepts it too (`read_run`, crates/text/specs/Entries.antt).
 fn run_lines(s: Settings, schedule: &[u16], events: &mut [u16], out: &mut [u8]) -> usize {
     let zeros = Record {
         done: 0,
