@@ -1,0 +1,56 @@
+// The lines of a run.
+use machine::{Answer, Record};
+use std::fmt;
+
+// table: the processors' records. events: those that were written.
+#[derive(Clone, Copy)]
+pub struct Run<'a> {
+    pub answer: Answer,
+    pub table: &'a [Record],
+    pub events: &'a [u16],
+}
+
+// The kind × 256 + the processor.
+#[derive(Clone, Copy)]
+struct Event(u16);
+
+// The first letter of join, grant, release, arrive or leave, and the processor.
+impl fmt::Display for Event {
+    fn fmt<W: fmt::Write>(&self, f: &mut fmt::Formatter<W>) -> fmt::Result {
+        let letter = match self.0 / 256 {
+            1 => 'j',
+            2 => 'g',
+            3 => 'r',
+            4 => 'a',
+            5 => 'l',
+            _ => '?',
+        };
+        write!(f, "{letter}{}", self.0 % 256)
+    }
+}
+
+impl fmt::Display for Run<'_> {
+    fn fmt<W: fmt::Write>(&self, f: &mut fmt::Formatter<W>) -> fmt::Result {
+        let Run {
+            answer,
+            table,
+            events,
+        } = *self;
+        let stop = u8::from(answer.stop);
+        writeln!(
+            f,
+            "turns={}\nstop={stop}\nremote={}",
+            answer.turns, answer.total
+        )?;
+        for (i, r) in table.iter().enumerate() {
+            writeln!(
+                f,
+                "p{i}={},{},{},{},{}",
+                r.done, r.remote, r.most, r.spins, r.idle
+            )?;
+        }
+        f.write_str("events=")?;
+        f.write_joined(events.iter().map(|&e| Event(e)), ",")?;
+        f.write_str("\n")
+    }
+}

@@ -1,5 +1,0 @@
--- The number falls.
-use Rattle.player.proofs.lines.+put_number.Given as goal
-
-abbrev pub decreases-put_number : goal.decreases-put_number
-decreases-put_number l = l.n

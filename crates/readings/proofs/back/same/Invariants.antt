@@ -1,6 +1,0 @@
--- The loop counts to the length.
-use Rattle.std.proofs.Common.{◌-◌, length}
-use Rattle.readings.proofs.back.same.Given as goal
-
-abbrev pub decreases-loop-k : goal.decreases-loop-k
-decreases-loop-k l = length l.a - l.k
