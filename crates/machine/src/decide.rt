@@ -33,10 +33,7 @@ pub(crate) fn core(
     ensures { Decided s schedule.now events.old events.new room result }
 {
     let algo = checked(s, schedule)?;
-    if room < s.procs as usize {
-        return Err(Refusal::TooShort);
-    }
-    if events.len() < 2 * schedule.len() {
+    if room < s.procs as usize || events.len() < 2 * schedule.len() {
         return Err(Refusal::TooShort);
     }
     Ok(play(algo, s, schedule, events))
