@@ -46,4 +46,4 @@ module _ (s : Settings) (t before : List ℕ) (room : ℕ) where
       played = subst (λ n. PlayedIs (machine n) (settings_of s) t before after p) (sym i) q;
     }
 
-pub ruleset ways_out = (refuses, few_records, few_events, ready, plays)
+pub ruleset refusals = (refuses, few_records, few_events)

@@ -23,7 +23,7 @@ fn play(algo: Algo, s: Settings, schedule: &[u16], events: &mut [u16]) -> Played
 }
 
 // room: how many records the lent table has.
-#[tactic(auto, using(crate::proofs::Deciding::ways_out))]
+#[tactic(auto, using(crate::proofs::Deciding::refusals))]
 pub(crate) fn core(
     s: Settings,
     schedule: &[u16],

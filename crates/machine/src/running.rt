@@ -6,7 +6,7 @@ ghost use Rattle.machine.specs.RunView.{stop_number, Ran, Tallies};
 
 use crate::decide::core;
 use crate::table::{Record, fill};
-use settings::{Refusal, Settings};
+use settings::{MOST_PROCS, Refusal, Settings};
 
 // Why a run ended.
 #[derive(Clone, Copy, Debug, PartialEq, Eq)]
@@ -50,7 +50,7 @@ pub struct Answer {
 #[derive(Clone, Copy, Debug, PartialEq, Eq)]
 pub struct Tallied {
     pub answer: Result<Answer, Refusal>,
-    pub table: [Record; 64],
+    pub table: [Record; MOST_PROCS],
 }
 
 // The core decides all, and then the table is filled.
@@ -77,7 +77,7 @@ pub fn tallies(
     s: Settings,
     schedule: &[u16],
     events: &mut [u16],
-    mut table: [Record; 64],
+    mut table: [Record; MOST_PROCS],
     room: usize,
 ) -> Tallied
     ensures { Tallies (settings_of s) schedule.now events.old events.new table room result }
