@@ -1,3 +1,3 @@
-pub mod Deciding
-pub mod Tables
+mod Deciding
+mod Tables
 pub mod OneOutcome

@@ -1,72 +1,85 @@
--- A table filled with the records of an outcome is the rules' table, and so a run gives what the rules say.
-use Rattle.std.specs.Prelude.{◌≡◌, ℕ, zero, suc, ◌+◌, ◌<◌, ◌≤◌, List, [], ◌∷◌, ◌++◌, map, length, set}
-use mathlib.Core.Path.{refl, sym, ap, ◌∙◌}
-use native.Mathlib.Omega.{arith}
-use lib.ListN.{length-set, length-map}
-use Rattle.rules.specs.Settings.{Settings}
+-- A table filled with the records of a run is the rules' table, and so a run gives what the rules say.
+use Rattle.std.proofs.Common.{◌≡◌, ℕ, zero, suc, ◌+◌, ◌*◌, ◌<◌, Bool, true, false, List, [], ◌∷◌, ◌++◌, map, length, take, drop, set, eqb, refl, sym, ap, ap₂, ◌∙◌, arith, Ok, Err, ne_eqb}
+use Rattle.std.proofs.lemmas.List.{take_more_set, map-append, length-map, length-take-le, drop-map}
+use native.Mathlib.Nat.{add-zero}
+use Rattle.std.specs.List.{range_with_len}
+use Rattle.std.proofs.lemmas.List.FromFn.{map-range_with_len_more, length-map-range_with_len}
+use Rattle.rules.specs.Memory.{pick}
+use Rattle.rules.specs.Tally.{Tally}
+use Rattle.rules.specs.Machines.{machine}
+use Rattle.rules.specs.Play.{Run, whole}
 use Rattle.rules.specs.Calls as rules
-use Rattle.rules.specs.Calls.{over}
-use Rattle.machine.specs.declared.decide.Outcome.{Outcome}
+use Rattle.rules.specs.Calls.{over, records, running, accepted_run}
+use Rattle.rules.proofs.Views.{column}
+use Rattle.settings.specs.View.{settings_of}
+use Rattle.settings.specs.declared.refusal.Refusal.{Refusal}
+use Rattle.settings.specs.declared.record.Settings.{Settings}
+use Rattle.settings.proofs.Outcome.{refused}
+use Rattle.turns.specs.declared.played.Played.{Played}
+use Rattle.turns.specs.CountView.{numbers, done_of, tally_of}
 use Rattle.machine.specs.declared.table.Record.{Record}
-use Rattle.machine.specs.declared.table.Answer.{Answer}
-use Rattle.machine.specs.RunView.{record_at, records_at, record_of, record_from, answer_from, answer_of, filled, OutcomeIs, Ran}
+use Rattle.machine.specs.declared.running.Stop.{Stop}
+use Rattle.machine.specs.RunView.{record_of, record_at, records_at, stop_number, Refuses, Plays, Ran}
 
--- a table has as many entries as before
-pub length_filled : (o : Outcome) (n : ℕ) (table : List Record) → length (filled o n table) ≡ length table
-unfolding filled
-length_filled o zero table = refl
-length_filled o (suc i) table = length-set (filled o i table) i (record_from o i) ∙ length_filled o i table
+-- ---- the table
 
--- ---- lists
+-- one record more is written
+pub one_more : (sums : List ℕ) (table : List Record) (i : ℕ) (r : Record)
+    → i < length table → map record_of (take i table) ≡ records_at sums i → record_of r ≡ record_at sums i
+    → map record_of (take (i + 1) (set table i r)) ≡ records_at sums (i + 1)
+one_more sums table i r l e f =
+    ap (map record_of) (take_more_set table i r l)
+    ∙ map-append record_of (take i table) (r ∷ [])
+    ∙ ap₂ (λ (a : List rules.Record) (b : rules.Record). a ++ b ∷ []) e f
+    ∙ sym (map-range_with_len_more (record_at sums) 0 i i (omega arith))
 
-map_set : {A B : Type 0} (f : A → B) (l : List A) (i : ℕ) (x : A) → map f (set l i x) ≡ set (map f l) i (f x)
-map_set f [] i x = refl
-map_set f (y ∷ l) zero x = refl
-map_set f (y ∷ l) (suc i) x = ap (λ r. f y ∷ r) (map_set f l i x)
-
--- one entry more
-over_one : {A : Type 0} (new old : List A) (x : A) → length new < length old → set (over new old) (length new) x ≡ over (new ++ x ∷ []) old
-over_one [] [] x h = absurd (omega arith)
-over_one [] (y ∷ old) x h = refl
-over_one (e ∷ new) [] x h = absurd (omega arith)
-over_one (e ∷ new) (y ∷ old) x h = ap (λ r. e ∷ r) (over_one new old x (omega arith))
-
--- ---- the records of n processors
-
-length_records : (sums : List ℕ) (n i : ℕ) → length (records_at sums n i) ≡ n
-length_records sums zero i = refl
-length_records sums (suc n) i = ap suc (length_records sums n (i + 1))
-
--- one processor more
-one_record : (sums : List ℕ) (n i : ℕ) → records_at sums (suc n) i ≡ records_at sums n i ++ record_at sums (i + n) ∷ []
-one_record sums zero i = ap (λ k. record_at sums k ∷ []) (omega arith)
-one_record sums (suc n) i =
-    ap (λ r. record_at sums i ∷ r) (one_record sums n (i + 1) ∙ ap (λ k. records_at sums n (i + 1) ++ record_at sums k ∷ []) (omega arith))
-
-pub filled_records : (o : Outcome) (n : ℕ) (table : List Record) → n ≤ length table
-    → map record_of (filled o n table) ≡ over (records_at o.sums n 0) (map record_of table)
-unfolding filled
-filled_records o zero table h = refl
-filled_records o (suc n) table h =
-    let sums : List ℕ = o.sums in
-    let old : List rules.Record = map record_of table in
-    let new : List rules.Record = records_at sums n 0 in
-    let l : length new ≡ n = length_records sums n 0 in
-    let k : length old ≡ length table = length-map table record_of in
-    map_set record_of (filled o n table) n (record_from o n)
-    ∙ ap (λ r. set r n (record_at sums n)) (filled_records o n table (omega arith))
-    ∙ ap (λ m. set (over new old) m (record_at sums n)) (sym l)
-    ∙ over_one new old (record_at sums n) (omega arith)
-    ∙ ap (λ m. over (new ++ record_at sums m ∷ []) old) (omega arith)
-    ∙ ap (λ r. over r old) (sym (one_record sums n 0))
+-- the records of a run are those of its numbers
+records_are : {S : Type 0} (r : Run S) (p : Played) → done_of p.sums ≡ r.course.done → tally_of p.sums p.total ≡ r.tally
+    → (n i : ℕ) → records r n i ≡ map (record_at p.sums) (range_with_len i n)
+unfolding column
+records_are r p d t zero i = refl
+records_are r p d t (suc n) i =
+    let f : (g : Tally → ℕ) → g r.tally ≡ g (tally_of p.sums p.total) = λ g. ap g (sym t) in
+    let one : r.course.done i ≡ done_of p.sums i = ap (λ (g : ℕ → ℕ). g i) (sym d) in
+    ap₂ (λ (a : rules.Record) (l : List rules.Record). a ∷ l)
+    (λ z. record {
+      done = (rw (add-zero (i * numbers)) at one) z;
+      remote = f (λ t. t.far i) z;
+      most = f (λ t. t.most i) z;
+      spins = f (λ t. t.spins i) z;
+      idle = f (λ t. t.idle i) z;
+    })
+    (records_are r p d t n (i + 1))
 
 -- ---- the call
 
-pub ran_is : (s : Settings) (turns events events' : List ℕ) (table table' : List Record) (o : Outcome) (a : Answer)
-    → OutcomeIs s turns events events' (length table) o → table' ≡ filled o o.count table → a ≡ answer_from o → Ran s turns events events' table table' a
-ran_is s turns events events' table table' o a c e f = record {
-  is = c.is (map record_of table) (length-map table record_of) ∙ (λ i. record { answer = answer_of (sym f i); events = events'; table = tables i });
-}
-  where
-    tables : over (records_at o.sums o.count 0) (map record_of table) ≡ map record_of table'
-    tables = sym (filled_records o o.count table c.in_room) ∙ ap (map record_of) (sym e)
+same_run : {a b c d e f g h : ℕ} {k l : List ℕ} {m n : List rules.Record} → a ≡ b → c ≡ d → e ≡ f → g ≡ h → k ≡ l → m ≡ n
+    → ◌≡◌ {A = rules.Running} (record { answer = record { number = 0; turns = a; stop = c; events = e; total = g }; events = k; table = m })
+    (record { answer = record { number = 0; turns = b; stop = d; events = f; total = h }; events = l; table = n })
+same_run p q r s t u = λ z. record { answer = record { number = 0; turns = p z; stop = q z; events = r z; total = s z }; events = t z; table = u z }
+
+module _ (s : Settings) (t events : List ℕ) (table : List Record) where
+  pub refused_is : (after : List ℕ) (r : Refusal) → Refuses s t events after (length table) r → Ran (settings_of s) t events after table table (Err r)
+  unfolding running
+  refused_is after r q = record { is = rw (length-map table record_of, q.number, ne_eqb _ 0 (refused r), q.same) refl }
+
+  same_stop : (n : ℕ) (b : Bool) → n ≡ pick b 1 0 → pick (eqb n 0) 0 1 ≡ pick {A = ℕ} b 1 0
+  same_stop n true e = rw e refl
+  same_stop n false e = rw e refl
+
+  tables : (sums : List ℕ) (new : List Record) → map record_of new ≡ records_at sums s.procs
+      → over (records_at sums s.procs) (map record_of table) ≡ map record_of (new ++ drop s.procs table)
+  tables sums new e =
+      rw (length-map-range_with_len (record_at sums) 0 s.procs, drop-map record_of s.procs table, ← e) (sym (map-append record_of new (drop s.procs table)))
+
+  pub played_is : (after : List ℕ) (p : Played) → Plays s t events after (length table) p
+      → (new : List Record) → map record_of new ≡ records_at p.sums (length (take s.procs table)) → (stop : Stop) → stop_number stop ≡ pick (eqb p.stop 0) 0 1
+      → Ran (settings_of s) t events after table (new ++ drop s.procs table) (Ok (record { turns = p.taken; stop = stop; events = p.events; total = p.total }))
+  unfolding running accepted_run
+  played_is after p q new e stop f =
+      let r = whole (machine s.algo) (settings_of s) t in
+      record {
+        is = rw (length-map table record_of, q.number) (same_run (sym q.played.taken) (sym (f ∙ same_stop p.stop r.stopped q.played.stop)) (sym q.played.events)
+            (ap (λ (t : Tally). t.total) (sym q.played.tally)) (sym q.played.row)
+            (ap (λ (l : List rules.Record). over l (map record_of table)) (records_are r p q.played.done q.played.tally s.procs 0) ∙ tables p.sums new (rw (length-take-le s.procs table q.in_room) at e)));
+      }

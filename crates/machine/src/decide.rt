@@ -1,73 +1,40 @@
-// A run over plain numbers: refusals, the machine that the settings name, its numbers. The table is filled afterwards.
-ghost use Rattle.std.specs.Prelude.{◌≡◌, replicate};
+// A run over plain numbers: refusals, and the machine that the settings name. The table is filled afterwards.
+ghost use Rattle.std.specs.Prelude.{length};
+ghost use Rattle.rules.specs.Machines.{machine};
+ghost use Rattle.settings.specs.Numbers.{algo_number};
 ghost use Rattle.settings.specs.View.{settings_of};
-ghost use Rattle.machine.specs.RunView.{OutcomeIs};
+ghost use Rattle.turns.specs.PlayView.{Ready, PlayedIs};
+ghost use Rattle.machine.specs.RunView.{Decided};
 
-use settings::{ACCEPTED, CENTRAL, DISSEM, MCS, Settings, TICKET, TOO_SHORT, refused_by};
+use settings::{Algo, Refusal, Settings, checked};
 use turns::Played;
 
-// count: how many records there are to write. sums: six numbers for each processor.
-#[derive(Clone, Copy)]
-pub(crate) struct Outcome {
-    pub(crate) number: u8,
-    pub(crate) turns: usize,
-    pub(crate) stop: u8,
-    pub(crate) events: usize,
-    pub(crate) total: u32,
-    pub(crate) count: usize,
-    pub(crate) sums: [u16; 384],
-}
-
-fn refused(number: u8) -> Outcome
-    ensures { result ≡ record { number = number; turns = 0; stop = 0; events = 0; total = 0; count = 0; sums = replicate 384 0 } }
+fn play(algo: Algo, s: Settings, schedule: &[u16], events: &mut [u16]) -> Played
+    requires { Ready (settings_of s) schedule.now (length events.old) }
+    ensures { PlayedIs (machine (algo_number algo)) (settings_of s) schedule.now events.old events.new result }
 {
-    Outcome {
-        number,
-        turns: 0,
-        stop: 0,
-        events: 0,
-        total: 0,
-        count: 0,
-        sums: [0; 384],
-    }
-}
-
-fn accepted(procs: u16, p: Played) -> Outcome
-    ensures { result ≡ record { number = 0; turns = p.taken; stop = p.stop; events = p.events; total = p.total; count = procs; sums = p.sums } }
-{
-    let sums = p.sums;
-    Outcome {
-        number: ACCEPTED,
-        turns: p.taken,
-        stop: p.stop,
-        events: p.events,
-        total: p.total,
-        count: procs as usize,
-        sums,
+    match algo {
+        Algo::Ticket => ticket::play(s, schedule, events),
+        Algo::Mcs => mcs::play(s, schedule, events),
+        Algo::Central => central::play(s, schedule, events),
+        Algo::Dissem => dissem::play(s, schedule, events),
+        Algo::Tree => tree::play(s, schedule, events),
     }
 }
 
 // room: how many records the lent table has.
-pub(crate) fn core(s: Settings, schedule: &[u16], events: &mut [u16], room: usize) -> Outcome
-    ensures { OutcomeIs (settings_of s) schedule.now events.old events.new room result }
+#[tactic(auto, using(crate::proofs::Deciding::refusals))]
+pub(crate) fn core(
+    s: Settings,
+    schedule: &[u16],
+    events: &mut [u16],
+    room: usize,
+) -> Result<Played, Refusal>
+    ensures { Decided s schedule.now events.old events.new room result }
 {
-    let number = refused_by(s, schedule);
-    if number != ACCEPTED {
-        return refused(number);
+    let algo = checked(s, schedule)?;
+    if room < s.procs as usize || events.len() < 2 * schedule.len() {
+        return Err(Refusal::TooShort);
     }
-    if room < s.procs as usize {
-        return refused(TOO_SHORT);
-    }
-    if events.len() < 2 * schedule.len() {
-        return refused(TOO_SHORT);
-    }
-    let algo = s.algo;
-    let p = match algo {
-        TICKET => ticket::play(s, schedule, events),
-        MCS => mcs::play(s, schedule, events),
-        CENTRAL => central::play(s, schedule, events),
-        DISSEM => dissem::play(s, schedule, events),
-        _ => tree::play(s, schedule, events),
-    };
-    accepted(s.procs, p)
+    Ok(play(algo, s, schedule, events))
 }

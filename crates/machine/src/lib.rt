@@ -5,5 +5,5 @@ mod decide;
 mod running;
 mod table;
 
-pub use running::{Tallied, run, tallies};
-pub use table::{Answer, Record};
+pub use running::{Answer, Stop, Tallied, run, tallies};
+pub use table::Record;

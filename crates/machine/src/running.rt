@@ -1,41 +1,75 @@
 // The run over a schedule, whole: the answer, the events and the table.
-ghost use Rattle.std.specs.Prelude.{◌≡◌, min};
+ghost use Rattle.std.specs.Prelude.{◌≡◌, ◌≢◌, eqb};
+ghost use Rattle.rules.specs.Memory.{pick};
 ghost use Rattle.settings.specs.View.{settings_of};
-ghost use Rattle.machine.specs.RunView.{Ran, Tallies};
+ghost use Rattle.machine.specs.RunView.{stop_number, Ran, Tallies};
 
 use crate::decide::core;
-use crate::table::{Answer, Record, answer_of, fill};
-use settings::Settings;
+use crate::table::{Record, fill};
+use settings::{MOST_PROCS, Refusal, Settings};
+
+// Why a run ended.
+#[derive(Clone, Copy, Debug, PartialEq, Eq)]
+pub enum Stop {
+    UsedUp,
+    Budget,
+}
+
+// Document 01's number.
+impl From<Stop> for u8 {
+    ghost from_gives = { λ s n. n ≡ stop_number s };
+
+    fn from(s: Stop) -> u8 {
+        match s {
+            Stop::UsedUp => 0,
+            Stop::Budget => 1,
+        }
+    }
+}
+
+fn stop_of(number: u8) -> Stop
+    ensures { stop_number result ≡ pick (eqb number 0) 0 1 }
+{
+    if number == 0 {
+        Stop::UsedUp
+    } else {
+        Stop::Budget
+    }
+}
+
+// turns: taken. events: how many. total: of remote references.
+#[derive(Clone, Copy, Debug, PartialEq, Eq)]
+pub struct Answer {
+    pub turns: usize,
+    pub stop: Stop,
+    pub events: usize,
+    pub total: u32,
+}
 
 // What a run over a table that was handed over gives: the answer, and the table.
-#[derive(Clone, Copy)]
+#[derive(Clone, Copy, Debug, PartialEq, Eq)]
 pub struct Tallied {
-    pub answer: Answer,
-    pub table: [Record; 64],
+    pub answer: Result<Answer, Refusal>,
+    pub table: [Record; MOST_PROCS],
 }
 
 // The core decides all, and then the table is filled.
-pub fn run(s: Settings, schedule: &[u16], events: &mut [u16], table: &mut [Record]) -> Answer
+pub fn run(
+    s: Settings,
+    schedule: &[u16],
+    events: &mut [u16],
+    table: &mut [Record],
+) -> Result<Answer, Refusal>
     ensures { Ran (settings_of s) schedule.now events.old events.new table.old table.new result }
 {
-    let o = core(s, schedule, events, table.len());
-    fill(table, o);
-    answer_of(o)
-}
-
-fn at_most(n: usize, most: usize) -> usize
-    ensures { result ≡ min n most }
-{
-    if n > most { most } else { n }
-}
-
-fn join_up(answer: Answer, table: [Record; 64]) -> Tallied
-    ensures { result ≡ record { answer = answer; table = table } }
-{
-    Tallied {
-        answer: answer,
-        table: table,
-    }
+    let p = core(s, schedule, events, table.len())?;
+    fill(&mut table[..s.procs as usize], &p.sums);
+    Ok(Answer {
+        turns: p.taken,
+        stop: stop_of(p.stop),
+        events: p.events,
+        total: p.total,
+    })
 }
 
 // The same run over the first records of a table that is handed over and handed back. room: how many are lent, 64 at most.
@@ -43,12 +77,12 @@ pub fn tallies(
     s: Settings,
     schedule: &[u16],
     events: &mut [u16],
-    mut table: [Record; 64],
+    mut table: [Record; MOST_PROCS],
     room: usize,
 ) -> Tallied
     ensures { Tallies (settings_of s) schedule.now events.old events.new table room result }
 {
-    let n = at_most(room, 64);
+    let n = room.min(table.len());
     let answer = run(s, schedule, events, &mut table[..n]);
-    join_up(answer, table)
+    Tallied { answer, table }
 }
