@@ -1,5 +1,5 @@
 -- Numbers: one law for each way out.
-use Rattle.std.proofs.Common.{◌≡◌, ℕ, suc, ◌+◌, ◌-◌, ◌*◌, ◌^◌, ◌≤◌, ◌<◌, Bool, true, false, ◌&&◌, ◌||◌, ◌⊎◌, inl, inr, List, [], ◌∷◌, length, get_or, drop, eqb, ltb, ap, ◌∙◌, arith, eq-eqb, ne_eqb, lt-ltb}
+use Rattle.std.proofs.Common.{◌≡◌, ℕ, suc, ◌+◌, ◌-◌, ◌*◌, ◌^◌, ◌≤◌, ◌<◌, Bool, true, false, ◌&&◌, ◌||◌, ◌⊎◌, inl, inr, List, [], ◌∷◌, length, get_or, drop, eqb, ltb, ap, sym, ◌∙◌, arith, eq-eqb, ne_eqb, lt-ltb}
 use lib.ListN.{drop_of_length-le}
 use Rattle.std.proofs.Math.Bool.{and-false}
 use Rattle.std.proofs.lemmas.List.{nil_from_length}
@@ -19,9 +19,9 @@ no_more : (k : ℕ) (d : Bool) → d ≡ false → (ltb 0 k && d) ≡ false
 no_more k d e = rw (e, and-false (ltb 0 k))
 
 module _ (a b room i n : ℕ) (s : List ℕ) (at : ℕ) (g : Got (ℕ × ℕ)) (e : g ≡ digits a b (room - i) n (drop i s) (at + i)) where
-  pub digits_short : i ≤ length s → length s ≤ i → g ≡ fault 1 (at + length s)
+  pub digits_short : i ≤ length s → length s ≤ i → (k p : ℕ) → k ≡ 1 → p ≡ at + length s → fault k p ≡ g
   unfolding digits
-  digits_short l h = let z : length s ≡ i = omega arith in rw (e, drop_of_length-le s h, z)
+  digits_short l h k p x y = let z : length s ≡ i = omega arith in rw (e, drop_of_length-le s h, x, y, z)
 
   module _ (h : i < length s) where
     step : g
@@ -33,15 +33,14 @@ module _ (a b room i n : ℕ) (s : List ℕ) (at : ℕ) (g : Got (ℕ × ℕ)) (
         let k : room - i - 1 ≡ room - (i + 1) = omega arith in
         rw (e, drop_next s i h, p, k)
 
-    pub digits_end : (get_or s i 0 ≡ a) ⊎ ((get_or s i 0 ≡ a → ⊥) × (get_or s i 0 ≡ b)) → g ≡ ok (n, get_or s i 0) (drop (i + 1) s) (at + (i + 1))
-    digits_end t = rw (step, one_of _ _ _ t)
+    pub digits_end : (get_or s i 0 ≡ a) ⊎ ((get_or s i 0 ≡ a → ⊥) × (get_or s i 0 ≡ b)) → (l : List ℕ) (p : ℕ) → l ≡ drop (i + 1) s → p ≡ at + (i + 1)
+        → ok (n, get_or s i 0) l p ≡ g
+    digits_end t l p x y = rw (step, one_of _ _ _ t, x, y)
 
     module _ (na : get_or s i 0 ≡ a → ⊥) (nb : get_or s i 0 ≡ b → ⊥) where
-      pub digits_full : i ≡ room → g ≡ fault 1 (at + i)
-      digits_full z = let k : room - i ≡ 0 = omega arith in rw (step, ne_eqb _ _ na, ne_eqb _ _ nb, k)
-
-      pub digits_not : is_digit (get_or s i 0) ≡ false → g ≡ fault 1 (at + i)
-      digits_not t = rw (step, ne_eqb _ _ na, ne_eqb _ _ nb, no_more (room - i) _ t)
+      pub digits_stop : (i ≡ room) ⊎ (is_digit (get_or s i 0) ≡ false) → (k p : ℕ) → k ≡ 1 → p ≡ at + i → fault k p ≡ g
+      digits_stop (inl z) k p x y = let w : room - i ≡ 0 = omega arith in rw (step, ne_eqb _ _ na, ne_eqb _ _ nb, w, x, y)
+      digits_stop (inr t) k p x y = rw (step, ne_eqb _ _ na, ne_eqb _ _ nb, no_more (room - i) _ t, x, y)
 
       pub digits_on : i < room → is_digit (get_or s i 0) ≡ true → g ≡ digits a b (room - (i + 1)) (n * 10 + (get_or s i 0 - 48)) (drop (i + 1) s) (at + (i + 1))
       digits_on l t = rw (step, ne_eqb _ _ na, ne_eqb _ _ nb, lt-ltb 0 (room - i) (omega arith), t)
@@ -62,19 +61,25 @@ below_next room i n x h r m l =
 -- ---- a number
 
 module _ (a b : ℕ) (s : List ℕ) (at : ℕ) where
-  pub number_short : length s < 1 → number a b s at ≡ fault 1 at
+  pub number_short : length s < 1 → (k p : ℕ) → k ≡ 1 → p ≡ at → fault k p ≡ number a b s at
   unfolding number
-  number_short h = let e : s ≡ [] = nil_from_length s (omega arith) in rw e
+  number_short h k p x y = let e : s ≡ [] = nil_from_length s (omega arith) in rw (e, x, y)
 
   module _ (h : 1 ≤ length s) where
-    split : s ≡ get_or s 0 0 ∷ drop 1 s
-    split = drop_next s 0 h
+    number_next : number a b s at ≡ number a b (get_or s 0 0 ∷ drop 1 s) at
+    number_next = ap (λ l. number a b l at) (drop_next s 0 h)
 
-    pub number_not : is_digit (get_or s 0 0) ≡ false → number a b s at ≡ fault 1 at
+    pub number_not : is_digit (get_or s 0 0) ≡ false → (k p : ℕ) → k ≡ 1 → p ≡ at → fault k p ≡ number a b s at
     unfolding number
-    number_not t = ap (λ l. number a b l at) split ∙ rw t
+    number_not t k p x y = rw (x, y) (sym (number_next ∙ rw t))
 
     pub number_digits : is_digit (get_or s 0 0) ≡ true → (room : ℕ) → room ≡ pick (eqb (get_or s 0 0) 48) 0 (most_digits - 1)
-        → number a b s at ≡ digits a b room (get_or s 0 0 - 48) (drop 1 s) (at + 1)
+        → (l : List ℕ) (p : ℕ) → l ≡ drop 1 s → p ≡ at + 1 → (r : Got (ℕ × ℕ)) → r ≡ digits a b room (get_or s 0 0 - 48) l p → r ≡ number a b s at
     unfolding number
-    number_digits t room e = ap (λ l. number a b l at) split ∙ rw (t, e)
+    number_digits t room e l p x y r f = f ∙ rw (x, y) (sym (number_next ∙ rw (t, e)))
+
+-- what `digits` keeps and returns
+pub ruleset digits_ways = (digits_short, digits_end, digits_on, below_next)
+
+-- what `number` returns
+pub ruleset number_ways = (number_short, number_not)

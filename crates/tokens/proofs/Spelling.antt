@@ -69,11 +69,18 @@ word_run (x ∷ s) at = go (is_lower x)
     go false = refl
 
 module _ (s : List ℕ) (at n : ℕ) (e : n ≡ run most_letters s) where
-  pub word_none : n ≡ 0 → word s at ≡ fault 1 at
-  word_none z = let f : run most_letters s ≡ 0 = sym e ∙ z in word_run s at ∙ rw f
+  pub word_none : n ≡ 0 → (k p : ℕ) → k ≡ 1 → p ≡ at → fault k p ≡ word s at
+  word_none z k p x y = let f : run most_letters s ≡ 0 = sym e ∙ z in rw (x, y) (sym (word_run s at ∙ rw f))
 
-  pub word_some : (n ≡ 0 → ⊥) → (l : List ℕ) (p : ℕ) → l ≡ drop n s → p ≡ at + n → (r : Got (Unit {0})) → r ≡ lit (feed ∷ []) l p
-      → word s at ≡ after r (λ _. give (take n s))
-  word_some z l p h k r f =
-      let m : eqb (run most_letters s) 0 ≡ false = ne_eqb _ _ (λ y. z (e ∙ y)) in
-      word_run s at ∙ rw (m, ← e, f, h, k)
+  module _ (z : n ≡ 0 → ⊥) (l : List ℕ) (p : ℕ) (h : l ≡ drop n s) (k : p ≡ at + n) where
+    word_some : word s at ≡ fed (take n s) l p
+    word_some = let m : eqb (run most_letters s) 0 ≡ false = ne_eqb _ _ (λ y. z (e ∙ y)) in word_run s at ∙ rw (m, ← e, h, k)
+
+    pub word_unfed : (i q : ℕ) → fault i q ≡ lit (feed ∷ []) l p → fault i q ≡ word s at
+    word_unfed i q f = rw (word_some, ← f)
+
+    pub word_fed : (l' : List ℕ) (q : ℕ) → ok tt l' q ≡ lit (feed ∷ []) l p → ok (take n s) l' q ≡ word s at
+    word_fed l' q f = rw (word_some, ← f)
+
+-- what `word` returns
+pub ruleset words = (word_none, word_fed)

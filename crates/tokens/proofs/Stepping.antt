@@ -5,7 +5,7 @@ use Rattle.rules.specs.Memory.{pick}
 use Rattle.rules.specs.Rule.{Got, ok, fault, lit}
 use Rattle.settings.specs.Numbers.{refusal_number}
 use Rattle.settings.specs.declared.refusal.Refusal.{Refusal}
-use Rattle.tokens.specs.declared.fault.Fault.{Fault}
+use Rattle.std.proofs.lemmas.List.Sums.{common_prefix_len-le}
 
 -- one byte and what is left after it
 pub drop_next : (s : List ℕ) (i : ℕ) → i < length s → drop i s ≡ get_or s i 0 ∷ drop (i + 1) s
@@ -13,8 +13,8 @@ drop_next s i h = drop-cons s i 0 h ∙ ap (λ (n : ℕ). get_or s i 0 ∷ drop 
 
 module _ {A : Type 0} (g : Got A) where
   -- a refusal at a place
-  pub refused : (r : Refusal) (p : ℕ) (f : Fault) → f ≡ record { refusal = r; place = p } → g ≡ fault (refusal_number r) p → fault (refusal_number f.refusal) f.place ≡ g
-  refused r p f h e = rw (h, e)
+  pub refused : (r r' : Refusal) (p p' : ℕ) → r' ≡ r → p' ≡ p → g ≡ fault (refusal_number r) p → fault (refusal_number r') p' ≡ g
+  refused r r' p p' h k e = rw (h, k, e)
 
   -- a value and the place after it
   pub passed : (v : A) (s s' : List ℕ) (p p' : ℕ) → s' ≡ s → p' ≡ p → g ≡ ok v s p → ok v s' p' ≡ g
@@ -26,7 +26,7 @@ module _ {A : Type 0} (g : Got A) where
 abbrev pub alike : List ℕ → List ℕ → ℕ
 alike s bs = common_prefix_len eqb s bs
 
-pub lit_stops : (bs s : List ℕ) (at : ℕ) → alike s bs < length bs → lit bs s at ≡ fault 1 (at + alike s bs)
+lit_stops : (bs s : List ℕ) (at : ℕ) → alike s bs < length bs → lit bs s at ≡ fault 1 (at + alike s bs)
 unfolding lit
 lit_stops [] [] at h = absurd (omega (arith, h))
 lit_stops [] (x ∷ s) at h = absurd (omega (arith, h))
@@ -41,7 +41,7 @@ lit_stops (b ∷ bs) (x ∷ s) at h = stop (lit_stops bs s (at + 1)) (eqb x b) h
     stop k true h = k (omega arith) ∙ ap (fault 1) (omega arith)
     stop k false h = ap (fault 1) (omega arith)
 
-pub lit_goes : (bs s : List ℕ) (at : ℕ) → length bs ≤ alike s bs → lit bs s at ≡ ok tt (drop (alike s bs) s) (at + alike s bs)
+lit_goes : (bs s : List ℕ) (at : ℕ) → length bs ≤ alike s bs → lit bs s at ≡ ok tt (drop (alike s bs) s) (at + alike s bs)
 unfolding lit
 lit_goes [] [] at h = ap (ok tt []) (omega arith)
 lit_goes [] (x ∷ s) at h = ap (ok tt (x ∷ s)) (omega arith)
@@ -61,3 +61,17 @@ pub alike_pairs : (s bs : List ℕ) → prefix_len (λ (p : ℕ × ℕ). eqb p.0
 alike_pairs [] bs = refl
 alike_pairs (x ∷ s) [] = refl
 alike_pairs (x ∷ s) (b ∷ bs) = ap (λ (n : ℕ). cond (eqb x b) (1 + n) 0) (alike_pairs s bs)
+
+-- as many as the code counted
+module _ (bs s : List ℕ) (at n : ℕ) (e : n ≡ alike s bs) where
+  pub alike_within : n ≤ length s
+  alike_within = rw e (common_prefix_len-le eqb s bs).0
+
+  pub label_stops : n < length bs → (k p : ℕ) → k ≡ 1 → p ≡ at + n → fault k p ≡ lit bs s at
+  label_stops h k p z m = rw (z, m, e) (sym (lit_stops bs s at (rw e at h)))
+
+  pub label_goes : length bs ≤ n → (l : List ℕ) (p : ℕ) → l ≡ drop n s → p ≡ at + n → ok tt l p ≡ lit bs s at
+  label_goes h l p k m = passed _ tt (drop n s) l (at + n) p k m (rw e (lit_goes bs s at (rw e at h)))
+
+-- what `label` asks and returns
+pub ruleset labels = (alike_within, label_stops, label_goes)

@@ -27,6 +27,7 @@ impl<'a> Place<'a> {
     ghost use Rattle.tokens.specs.TokenView.{got_of};
 
     // 1 to 8 lower-case letters, and the place after their line feed.
+    #[tactic(auto, using(crate::proofs::Spelling::words))]
     fn word(self) -> Result<(&'a [u8], Place<'a>), Fault>
         ensures { got_of (λ w. w.now) result ≡ word self.entry.rest.now self.entry.at }
     {

@@ -21,6 +21,7 @@ impl<'a> Place<'a> {
     ghost use Rattle.tokens.specs.TokenView.{got_of, numeral_of};
 
     // The rest of a number whose digits so far say `said`: at most `room` digits more, and then `a` or `b`.
+    #[tactic(auto, using(crate::proofs::Numerals::digits_ways))]
     fn digits(self, a: u8, b: u8, room: usize, said: usize) -> Result<(Numeral, Place<'a>), Fault>
         requires room_lt_most_digits { room < most_digits }
         requires said_bound { said < 10 ^ (most_digits - room) }
@@ -46,6 +47,7 @@ impl<'a> Place<'a> {
     }
 
     // A number that `a` or `b` ends. 0 is written `0`, and no other number starts with 0.
+    #[tactic(auto, using(crate::proofs::Numerals::number_ways))]
     pub fn number(self, a: u8, b: u8) -> Result<(Numeral, Place<'a>), Fault>
         ensures { got_of numeral_of result ≡ number a b self.entry.rest.now self.entry.at }
     {

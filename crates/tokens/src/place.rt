@@ -41,7 +41,8 @@ impl<'a> Place<'a> {
 
     // A fault of what begins at this place.
     pub fn fault(self, refusal: Refusal) -> Fault
-        ensures { result ≡ record { refusal = refusal; place = self.entry.at } }
+        ensures refusal { result.refusal ≡ refusal }
+        ensures place { result.place ≡ self.entry.at }
     {
         Fault {
             refusal,
@@ -52,7 +53,8 @@ impl<'a> Place<'a> {
     // The bytes leave the form of a file n bytes on.
     pub(crate) fn malformed(self, n: usize) -> Fault
         requires { n ≤ length self.rest.now }
-        ensures { result ≡ record { refusal = Malformed; place = self.entry.at + n } }
+        ensures refusal { result.refusal ≡ Malformed }
+        ensures place { result.place ≡ self.entry.at + n }
     {
         Fault {
             refusal: Refusal::Malformed,
@@ -61,6 +63,7 @@ impl<'a> Place<'a> {
     }
 
     // Exactly the bytes of the label.
+    #[tactic(auto, using(crate::proofs::Stepping::labels))]
     pub fn label(self, label: &[u8]) -> Result<Place<'a>, Fault>
         ensures { place_of result ≡ lit label.now self.entry.rest.now self.entry.at }
     {

@@ -1,17 +1,10 @@
 -- `tokens::place::Place::number` meets its contract.
-use Rattle.std.proofs.Common.{◌≡◌, ◌-◌, eqb, get_or, rules, sym, ◌∙◌, eq-eqb, ne_eqb}
+use Rattle.std.proofs.Common.{◌≡◌, ◌-◌, eqb, get_or, rules, ◌∙◌, eq-eqb, ne_eqb}
 use Rattle.rules.specs.Memory.{pick}
 use Rattle.rules.specs.Bounds.{most_digits}
-use Rattle.tokens.proofs.Stepping.{refused}
-use Rattle.tokens.proofs.Numerals.{number_short, number_not, number_digits}
+use Rattle.tokens.proofs.Numerals.{number_digits}
 use Rattle.tokens.proofs.place.Place.number.Goals as goal
 use Rattle.tokens.proofs.place.Place.number.Goals.{After-digits, then-first-eq48, else-first-eq48}
-
-pub returns-in_default : goal.returns-in_default
-returns-in_default c = refused _ _ _ _ c.fault.ensures (number_short _ _ _ _ c.in_default.len_below)
-
-pub returns-then-not-is_ascii_digit : goal.returns-then-not-is_ascii_digit
-returns-then-not-is_ascii_digit c = refused _ _ _ _ c.fault-then-not-is_ascii_digit.ensures (number_not _ _ _ _ c.in-len1-up.len_at_least (search rules))
 
 room : (c : After-digits) → c.if-first-eq48.room ≡ pick (eqb (get_or c.args.self.rest.now 0 0) 48) 0 (most_digits - 1)
 room c =
@@ -21,5 +14,4 @@ room c =
     ]
 
 pub returns : goal.returns
-returns c =
-    c.digits.ensures ∙ rw (c.after.ensures.rest, c.after.ensures.at) (sym (number_digits _ _ _ _ c.in-len1-up.len_at_least (search rules) _ (room c)))
+returns c = number_digits _ _ _ _ c.in-len1-up.len_at_least (search rules) _ (room c) _ _ c.after.ensures.rest c.after.ensures.at _ c.digits.ensures
