@@ -1,5 +1,0 @@
-mod Lining
-mod Passing
-mod Opening
-mod Answering
-pub mod OneOutcome
