@@ -18,14 +18,15 @@ struct Event(u16);
 impl fmt::Display for Event {
     fn fmt<W: fmt::Write>(&self, f: &mut fmt::Formatter<W>) -> fmt::Result {
         let letter = match self.0 / 256 {
-            1 => 'j',
-            2 => 'g',
-            3 => 'r',
-            4 => 'a',
-            5 => 'l',
-            _ => '?',
+            1 => "j",
+            2 => "g",
+            3 => "r",
+            4 => "a",
+            5 => "l",
+            _ => "?",
         };
-        write!(f, "{letter}{}", self.0 % 256)
+        f.write_str(letter)?;
+        f.write(self.0 % 256)
     }
 }
 
