@@ -1,0 +1,4 @@
+mod Lining
+mod Passing
+mod Answering
+pub mod OneOutcome
