@@ -1,17 +1,21 @@
 -- The file in its parts, and how long it is at most.
-use Rattle.std.proofs.Common.{◌≡◌, ℕ, zero, suc, ◌+◌, ◌*◌, ◌≤◌, ◌<◌, List, [], ◌∷◌, ◌++◌, length, refl, ap, arith, length-append, append_assoc}
+use Rattle.std.proofs.Common.{◌≡◌, ℕ, zero, suc, ◌+◌, ◌*◌, ◌≤◌, ◌<◌, ◌^◌, List, [], ◌∷◌, ◌++◌, length, true, Ok, refl, sym, ap, arith, length-append, append_assoc}
 use Rattle.rules.specs.Bounds.{most_procs, most_rounds, most_hold}
-use Rattle.rules.specs.Settings.{Settings, entry}
+use Rattle.rules.specs.Settings as rules
+use Rattle.rules.specs.Settings.{entry}
 use Rattle.rules.specs.Machines.{numbered}
 use Rattle.rules.specs.File.{decimal, entries_text, rows_text, turns_text, text}
-use Rattle.rules.proofs.Accepted.{Row, Below, Accepted}
+use Rattle.rules.specs.Calls.{refusal}
+use Rattle.rules.proofs.Accepted.{Row, Below, Accepted, accepted}
 use Rattle.laws.proofs.Decimal.{decimal_length}
 use Rattle.settings.specs.Numbers.{algo_number, algo_name}
+use Rattle.settings.specs.View.{settings_of, Checked}
 use Rattle.settings.specs.declared.algo.Algo.{Algo}
 use Rattle.settings.specs.declared.algo.Algo.TheVariants.{Ticket, Mcs, Central, Dissem, Tree}
+use Rattle.settings.specs.declared.record.Settings.{Settings}
 use Rattle.writer.specs.FileView.{front_text, file_text}
 
-pub parted : (a : Algo) (s : Settings) (ts : List ℕ) → s.algo ≡ algo_number a → text s ts ≡ file_text a s ts
+parted : (a : Algo) (s : rules.Settings) (ts : List ℕ) → s.algo ≡ algo_number a → text s ts ≡ file_text a s ts
 unfolding text algo_name
 parted a s ts e = rw (e) (simp append_assoc)
 
@@ -48,7 +52,7 @@ turns_short p (t ∷ u ∷ ts) h b =
     let m = turns_short p (u ∷ ts) h b.1 in
     simp length-append (omega arith)
 
-pub short : (a : Algo) (s : Settings) (ts : List ℕ) → Accepted s ts → length (file_text a s ts) < 100000
+short : (a : Algo) (s : rules.Settings) (ts : List ℕ) → Accepted s ts → length (file_text a s ts) < 100000
 short a s ts k =
     let n = name_short a in
     let w = number_short s.procs (omega (arith, k.procs_high)) in
@@ -58,3 +62,16 @@ short a s ts k =
     let r = rows_short s.procs s.rounds s.hold k.procs_high k.rounds k.hold s.procs 0 (omega arith) in
     let t = turns_short s.procs ts k.procs_high k.turns_below in
     simp length-append (omega (arith, k.procs_high, k.few))
+
+module _ (s : Settings) (turns : List ℕ) (a : Algo) (k : Checked s turns (Ok a)) where
+  pub allowed : Accepted (settings_of s) turns
+  allowed = (accepted (settings_of s) turns true (sym k.number)).0
+
+  pub few_procs : s.procs ≤ most_procs
+  few_procs = allowed.procs_high
+
+  pub in_parts : text (settings_of s) turns ≡ file_text a (settings_of s) turns
+  in_parts = parted a (settings_of s) turns (k.machine a refl)
+
+  pub length_fits : length (text (settings_of s) turns) < 2 ^ 64
+  length_fits = let h = short a (settings_of s) turns allowed in rw in_parts (omega arith)

@@ -48,9 +48,9 @@ fn put_decimal<S: Sink>(sink: &mut S, n: usize)
     ensures { sink.new ≡ S.put sink.old (decimal n) }
 {
     if n < 10 {
-        sink.byte(48 + (n as u8));
+        sink.byte(b'0' + (n as u8));
         return;
     }
     put_decimal(sink, n / 10);
-    sink.byte(48 + ((n % 10) as u8));
+    sink.byte(b'0' + ((n % 10) as u8));
 }
