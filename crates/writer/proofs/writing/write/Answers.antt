@@ -13,7 +13,9 @@ put_file-requires-clause-procs c = few_procs _ _ _ c.in_ok-algo.ensures
 
 pub returns : goal.returns
 returns c =
-    let fits = write_done _ _ _ _ c.in_ok-algo.ensures (omega arith) in
+    let done = write_done _ _ _ _ c.in_ok-algo.ensures (omega arith) in
     let same = sym (ap (λ (p : Pen). p.out.ghost_name) c.put_file.ensures) in
     let last : _ ≡ c.put_file.new.sink.out.now = search rules in
-    fits _ _ (last ∙ ap (λ (p : Pen). p.out.now) c.put_file.ensures) (ap (λ (p : Pen). p.at) c.put_file.ensures)
+    let bytes = last ∙ ap (λ (p : Pen). p.out.now) c.put_file.ensures in
+    let count = ap (λ (p : Pen). p.at) c.put_file.ensures in
+    search done
