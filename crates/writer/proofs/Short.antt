@@ -1,11 +1,10 @@
 -- How long a file is at most.
-use Rattle.std.proofs.Common.{◌≡◌, ℕ, zero, suc, ◌+◌, ◌*◌, ◌≤◌, ◌<◌, ◌^◌, List, [], ◌∷◌, ◌++◌, length, true, Ok, refl, sym, ap, arith, length-append, append_assoc}
+use Rattle.std.proofs.Common.{◌≡◌, ℕ, zero, suc, ◌+◌, ◌*◌, ◌≤◌, ◌<◌, ◌^◌, List, [], ◌∷◌, length, true, Ok, refl, sym, arith, length-append}
 use Rattle.rules.specs.Bounds.{most_procs, most_rounds, most_hold}
 use Rattle.rules.specs.Settings as rules
 use Rattle.rules.specs.Settings.{entry}
 use Rattle.rules.specs.Machines.{numbered}
-use Rattle.rules.specs.File.{decimal, entries_text, rows_text, turns_text, text}
-use Rattle.rules.specs.Calls.{refusal}
+use Rattle.rules.specs.File.{decimal, rows_text, turns_text, text}
 use Rattle.rules.proofs.Accepted.{Row, Below, Accepted, accepted}
 use Rattle.laws.proofs.Decimal.{decimal_length}
 use Rattle.settings.specs.Numbers.{algo_number}

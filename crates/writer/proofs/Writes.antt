@@ -1,5 +1,5 @@
 -- Laws for the function `write`: one for each way out.
-use Rattle.std.proofs.Common.{◌≡◌, ℕ, ◌+◌, ◌-◌, ◌≤◌, ◌<◌, Bool, true, false, List, ◌++◌, length, drop, eqb, leb, refl, ap, sym, ◌∙◌, arith, Result, Ok, Err, ne_eqb, le-leb}
+use Rattle.std.proofs.Common.{◌≡◌, ℕ, ◌+◌, ◌≤◌, ◌<◌, Bool, true, false, List, length, eqb, leb, ap, sym, ◌∙◌, Ok, Err, ne_eqb, le-leb}
 use Rattle.std.proofs.lemmas.Bool.{lt-leb}
 use native.Mathlib.Nat.{zero-add}
 use Rattle.rules.specs.Memory.{pick}
@@ -7,7 +7,7 @@ use Rattle.rules.specs.Calls.{refusal, writing}
 use Rattle.rules.specs.File.{text}
 use Rattle.rules.proofs.Accepted.{accepts, refusal_room}
 use Rattle.settings.specs.Numbers.{refusal_number}
-use Rattle.settings.specs.View.{settings_of, number_of, Checked}
+use Rattle.settings.specs.View.{settings_of, Checked}
 use Rattle.settings.specs.declared.algo.Algo.{Algo}
 use Rattle.settings.specs.declared.refusal.Refusal.{Refusal}
 use Rattle.settings.specs.declared.refusal.Refusal.TheVariants.{TooShort}

@@ -1,5 +1,5 @@
 -- The two sinks keep the laws.
-use Rattle.std.proofs.Common.{◌≡◌, ℕ, ◌+◌, ◌≤◌, List, [], ◌++◌, length, take, drop, inl, inr, refl, ap, ap₂, sym, ◌∙◌, arith, length-append, append_assoc, add_assoc}
+use Rattle.std.proofs.Common.{◌≡◌, ℕ, ◌+◌, ◌≤◌, List, [], ◌++◌, length, take, drop, inl, inr, ap, ap₂, sym, ◌∙◌, arith, length-append, append_assoc, add_assoc}
 use Rattle.std.proofs.lemmas.Bool.{cases_lt}
 use Rattle.std.proofs.lemmas.List.{append-nil, take_all, drop_all, take_at, drop_at, length-take, length-drop, take-append-drop}
 use Rattle.std.proofs.Math.Seq.{drop-drop}

@@ -1,5 +1,5 @@
 -- A number of one digit, or all its digits but the last and then the last.
-use Rattle.std.proofs.Common.{rules, ℕ, ap, arith, sym, length, ◌∙◌, length-append}
+use Rattle.std.proofs.Common.{rules, ℕ, ap, arith, length, length-append}
 use Rattle.laws.proofs.Decimal.{decimal_one, decimal_long}
 use Rattle.writer.proofs.sink.+put_decimal.Goals as goal
 

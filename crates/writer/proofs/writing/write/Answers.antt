@@ -13,9 +13,8 @@ put_file-requires-clause-procs c = few_procs _ _ _ c.in_ok-algo.ensures
 
 pub returns : goal.returns
 returns c =
-    let done = write_done _ _ _ _ c.in_ok-algo.ensures (omega arith) in
+    let known = write_done _ _ _ _ c.in_ok-algo.ensures (omega arith) in
     let same = sym (ap (λ (p : Pen). p.out.ghost_name) c.put_file.ensures) in
     let last : _ ≡ c.put_file.new.sink.out.now = search rules in
-    let bytes = last ∙ ap (λ (p : Pen). p.out.now) c.put_file.ensures in
     let count = ap (λ (p : Pen). p.at) c.put_file.ensures in
-    search done
+    known _ _ (last ∙ ap (λ (p : Pen). p.out.now) c.put_file.ensures) (search rules)
