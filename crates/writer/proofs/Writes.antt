@@ -43,10 +43,10 @@ module _ (s : Settings) (turns out : List ℕ) where
     write_short h = let f : roomy ≡ false = lt-leb _ (length out) h in refuses TooShort (ap (λ b. pick b 0 6) (sym f) ∙ given 0 k.number)
 
     module _ (h : length whole ≤ length out) where
-      pub write_done : (out' : List ℕ) (r : ℕ) → out' ≡ over out 0 whole → r ≡ 0 + length whole → WriteIs (settings_of s) turns out out' (Ok r)
+      pub write_done : (d out' : List ℕ) (r : ℕ) → d ≡ over out 0 whole → out' ≡ d → r ≡ 0 + length whole → WriteIs (settings_of s) turns out out' (Ok r)
       unfolding writing
-      write_done out' r o n =
+      write_done d out' r o e n =
           let f : refusal (settings_of s) turns roomy ≡ 0 = accepts (settings_of s) turns roomy (allowed s turns a k) (le-leb _ (length out) h) in
-          record { is = rw (f, n, o, zero-add (length whole)) }
+          record { is = rw (f, n, e, o, zero-add (length whole)) }
 
 pub ruleset ways = (write_refused, write_short)

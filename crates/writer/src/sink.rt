@@ -43,6 +43,7 @@ pub(crate) trait Sink {
 }
 
 // Its depth is the number of digits.
+#[tactic(auto, using(laws::proofs::Decimal::decimal_one, laws::proofs::Decimal::decimal_long))]
 fn put_decimal<S: Sink>(sink: &mut S, n: usize)
     requires { length (decimal n) < S.room sink.old }
     ensures { sink.new ≡ S.put sink.old (decimal n) }

@@ -1,5 +1,5 @@
 -- `writer::writing::write` meets its contract: each return is one way out.
-use Rattle.std.proofs.Common.{◌≡◌, rules, ap, sym, ◌∙◌, arith}
+use Rattle.std.proofs.Common.{rules, ap, sym, arith}
 use Rattle.writer.specs.declared.pen.Pen.{Pen}
 use Rattle.writer.proofs.Short.{few_procs}
 use Rattle.writer.proofs.Writes.{write_short, write_done}
@@ -13,8 +13,8 @@ put_file-requires-clause-procs c = few_procs _ _ _ c.in_ok-algo.ensures
 
 pub returns : goal.returns
 returns c =
-    let known = write_done _ _ _ _ c.in_ok-algo.ensures (omega arith) in
+    let known = write_done c.args.s c.args.schedule.now c.args.out.now c.in_ok-algo.algo c.in_ok-algo.ensures (omega arith) in
     let same = sym (ap (λ (p : Pen). p.out.ghost_name) c.put_file.ensures) in
-    let last : _ ≡ c.put_file.new.sink.out.now = search rules in
+    let bytes = ap (λ (p : Pen). p.out.now) c.put_file.ensures in
     let count = ap (λ (p : Pen). p.at) c.put_file.ensures in
-    known _ _ (last ∙ ap (λ (p : Pen). p.out.now) c.put_file.ensures) (search rules)
+    known c.put_file.new.sink.out.now _ _ bytes (search rules) (search rules)
