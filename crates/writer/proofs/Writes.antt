@@ -1,7 +1,6 @@
 -- Laws for the function `write`: one for each way out.
-use Rattle.std.proofs.Common.{◌≡◌, ℕ, ◌+◌, ◌≤◌, ◌<◌, Bool, true, false, List, length, eqb, leb, ap, sym, ◌∙◌, Ok, Err, ne_eqb, le-leb}
+use Rattle.std.proofs.Common.{◌≡◌, ℕ, ◌+◌, zero-add, ◌≤◌, ◌<◌, Bool, true, false, List, length, eqb, leb, ap, sym, ◌∙◌, Ok, Err, ne_eqb, le-leb}
 use Rattle.std.proofs.lemmas.Bool.{lt-leb}
-use native.Mathlib.Nat.{zero-add}
 use Rattle.rules.specs.Memory.{pick}
 use Rattle.rules.specs.Calls.{refusal, writing}
 use Rattle.rules.specs.File.{text}

@@ -9,7 +9,6 @@ use crate::file::put_file;
 use crate::pen::Pen;
 use settings::{Algo, Refusal, Settings, checked};
 
-#[tactic(auto, using(crate::proofs::Short::length_fits))]
 fn file_length(algo: Algo, s: Settings, schedule: &[u16]) -> usize
     requires { Checked s schedule.now (Ok algo) }
     ensures { result ≡ length (text (settings_of s) schedule.now) }
