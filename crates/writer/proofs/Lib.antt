@@ -1,6 +1,6 @@
-mod Puts
 mod Left
-mod Counted
-mod Filed
+mod Turns
+mod Rows
+mod Short
 mod Writes
 pub mod OneOutcome

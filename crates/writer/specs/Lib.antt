@@ -1,3 +1,4 @@
-pub mod PutView
-pub mod LengthView
+pub mod FileView
+pub mod Kept
+pub mod SinkView
 pub mod WriteView

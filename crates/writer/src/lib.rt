@@ -1,9 +1,10 @@
 // The settings file, written from the settings record and the schedule.
 #![tactic(auto)]
 
-mod lengths;
-mod names;
-mod putting;
+mod count;
+mod file;
+mod pen;
+mod sink;
 mod writing;
 
-pub use writing::{Written, write};
+pub use writing::write;

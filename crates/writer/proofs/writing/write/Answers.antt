@@ -1,18 +1,15 @@
 -- `writer::writing::write` meets its contract: each return is one way out.
-use Rattle.writer.proofs.Writes.{write_accepted, write_short, write_room, write_done}
+use Rattle.std.proofs.Common.{◌≡◌, rules, ap, sym, ◌∙◌, arith}
+use Rattle.writer.specs.declared.pen.Pen.{Pen}
+use Rattle.writer.proofs.Writes.{write_short, write_done}
 use Rattle.writer.proofs.writing.write.Goals as goal
 
-pub file_length-length-requires : goal.file_length-length-requires
-file_length-length-requires c = search write_accepted
-
 pub returns-then-out-length : goal.returns-then-out-length
-returns-then-out-length c = search write_short
-
-pub put_file-count-requires-clause-accepted : goal.put_file-count-requires-clause-accepted
-put_file-count-requires-clause-accepted c = search write_accepted
-
-pub put_file-count-requires-clause-room : goal.put_file-count-requires-clause-room
-put_file-count-requires-clause-room c = search write_room
+returns-then-out-length c = write_short _ _ _ _ c.in_ok-algo.ensures (omega arith)
 
 pub returns : goal.returns
-returns c = search write_done
+returns c =
+    let fits = c.file_length-length.ensures in
+    let same = sym (ap (λ (p : Pen). p.out.ghost_name) c.put_file.ensures) in
+    let last : _ ≡ c.put_file.new.sink.out.now = search rules in
+    write_done _ _ _ _ c.in_ok-algo.ensures (omega arith) _ _ (last ∙ ap (λ (p : Pen). p.out.now) c.put_file.ensures) (ap (λ (p : Pen). p.at) c.put_file.ensures)

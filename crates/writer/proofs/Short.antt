@@ -1,0 +1,77 @@
+-- The file in its parts, and how long it is at most.
+use Rattle.std.proofs.Common.{◌≡◌, ℕ, zero, suc, ◌+◌, ◌*◌, ◌≤◌, ◌<◌, ◌^◌, List, [], ◌∷◌, ◌++◌, length, true, Ok, refl, sym, ap, arith, length-append, append_assoc}
+use Rattle.rules.specs.Bounds.{most_procs, most_rounds, most_hold}
+use Rattle.rules.specs.Settings as rules
+use Rattle.rules.specs.Settings.{entry}
+use Rattle.rules.specs.Machines.{numbered}
+use Rattle.rules.specs.File.{decimal, entries_text, rows_text, turns_text, text}
+use Rattle.rules.specs.Calls.{refusal}
+use Rattle.rules.proofs.Accepted.{Row, Below, Accepted, accepted}
+use Rattle.laws.proofs.Decimal.{decimal_length}
+use Rattle.settings.specs.Numbers.{algo_number, algo_name}
+use Rattle.settings.specs.View.{settings_of, Checked}
+use Rattle.settings.specs.declared.algo.Algo.{Algo}
+use Rattle.settings.specs.declared.algo.Algo.TheVariants.{Ticket, Mcs, Central, Dissem, Tree}
+use Rattle.settings.specs.declared.record.Settings.{Settings}
+use Rattle.writer.specs.FileView.{front_text, file_text}
+
+parted : (a : Algo) (s : rules.Settings) (ts : List ℕ) → s.algo ≡ algo_number a → text s ts ≡ file_text a s ts
+unfolding text algo_name
+parted a s ts e = rw (e) (simp append_assoc)
+
+name_short : (a : Algo) → length (algo_name a) ≤ 7
+unfolding algo_name
+name_short Ticket = omega arith
+name_short Mcs = omega arith
+name_short Central = omega arith
+name_short Dissem = omega arith
+name_short Tree = omega arith
+
+number_short : (n : ℕ) → n < 100000 → length (decimal n) ≤ 5
+number_short n h = decimal_length 4 n (omega arith)
+
+module _ (procs : ℕ) (rounds hold : List ℕ) (p : procs ≤ most_procs) (r : Row procs most_rounds rounds) (h : Row procs most_hold hold) where
+  rows_short : (k i : ℕ) → i + k ≤ procs → length (rows_text k i rounds hold) ≤ k * 20
+  unfolding rows_text
+  rows_short zero i l = omega arith
+  rows_short (suc k) i l =
+      let a = r.fits i (omega arith) in
+      let b = h.fits i (omega arith) in
+      let x = number_short i (omega arith) in
+      let y = number_short (entry rounds i) (omega arith) in
+      let z = number_short (entry hold i) (omega arith) in
+      let n = rows_short k (i + 1) (omega arith) in
+      simp length-append (omega arith)
+
+turns_short : (p : ℕ) (ts : List ℕ) → p ≤ most_procs → Below p ts → length (turns_text ts) ≤ 1 + length ts * 6
+unfolding turns_text
+turns_short p [] h b = omega arith
+turns_short p (t ∷ []) h b = let n = number_short t (omega (arith, b.0)) in simp length-append (omega arith)
+turns_short p (t ∷ u ∷ ts) h b =
+    let n = number_short t (omega (arith, b.0)) in
+    let m = turns_short p (u ∷ ts) h b.1 in
+    simp length-append (omega arith)
+
+short : (a : Algo) (s : rules.Settings) (ts : List ℕ) → Accepted s ts → length (file_text a s ts) < 100000
+short a s ts k =
+    let n = name_short a in
+    let w = number_short s.procs (omega (arith, k.procs_high)) in
+    let x = number_short s.home (omega (arith, k.procs_high, k.home)) in
+    let y = number_short s.ticket (omega (arith, k.ticket)) in
+    let z = number_short s.budget (omega (arith, k.budget)) in
+    let r = rows_short s.procs s.rounds s.hold k.procs_high k.rounds k.hold s.procs 0 (omega arith) in
+    let t = turns_short s.procs ts k.procs_high k.turns_below in
+    simp length-append (omega (arith, k.procs_high, k.few))
+
+module _ (s : Settings) (turns : List ℕ) (a : Algo) (k : Checked s turns (Ok a)) where
+  pub allowed : Accepted (settings_of s) turns
+  allowed = (accepted (settings_of s) turns true (sym k.number)).0
+
+  pub few_procs : s.procs ≤ most_procs
+  few_procs = allowed.procs_high
+
+  pub in_parts : text (settings_of s) turns ≡ file_text a (settings_of s) turns
+  in_parts = parted a (settings_of s) turns (k.machine a refl)
+
+  pub length_fits : length (text (settings_of s) turns) < 2 ^ 64
+  length_fits = let h = short a (settings_of s) turns allowed in rw in_parts (omega arith)

@@ -1,6 +1,0 @@
--- `writer::putting::put_file` meets its contract.
-use Rattle.writer.proofs.Puts.{put_third}
-use Rattle.writer.proofs.putting.put_file.Goals as goal
-
-pub returns : goal.returns
-returns c = search put_third

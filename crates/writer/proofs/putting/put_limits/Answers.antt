@@ -1,6 +1,0 @@
--- Two lines, one after the other.
-use Rattle.writer.proofs.Puts.{put_then}
-use Rattle.writer.proofs.putting.put_limits.Goals as goal
-
-pub returns : goal.returns
-returns c = search put_then

@@ -1,0 +1,77 @@
+// The lines of a file, put into a sink.
+ghost use Rattle.std.specs.Prelude.{◌≡◌, ◌≤◌, ◌<◌, [], ◌∷◌, ◌++◌, length};
+ghost use Rattle.rules.specs.Bounds.{most_procs};
+ghost use Rattle.rules.specs.File.{entries_text, rows_text, turns_text, text};
+ghost use Rattle.rules.specs.Machines.{bytes};
+ghost use Rattle.rules.specs.Rule.{feed};
+ghost use Rattle.settings.specs.Numbers.{algo_name};
+ghost use Rattle.settings.specs.View.{settings_of, Checked};
+ghost use Rattle.writer.specs.FileView.{front_text};
+
+use crate::sink::Sink;
+use settings::{Algo, Settings};
+
+// The lines before the processors'.
+fn put_front<S: Sink>(sink: &mut S, algo: Algo, s: Settings)
+    requires { length (front_text algo (settings_of s)) < S.room sink.old }
+    ensures { sink.new ≡ S.put sink.old (front_text algo (settings_of s)) }
+{
+    sink.put(b"algo=");
+    sink.put(algo.name());
+    sink.byte(b'\n');
+    sink.field(b"procs=", s.procs as usize);
+    sink.field(b"home=", s.home as usize);
+    sink.field(b"ticket=", s.ticket as usize);
+    sink.field(b"budget=", s.budget as usize);
+}
+
+// Processor i's line.
+fn put_entries<S: Sink>(sink: &mut S, i: usize, rounds: u16, hold: u16)
+    requires { length (entries_text i rounds hold) < S.room sink.old }
+    ensures { sink.new ≡ S.put sink.old (entries_text i rounds hold) }
+{
+    sink.byte(b'p');
+    sink.number(i, b'=');
+    sink.number(rounds as usize, b',');
+    sink.number(hold as usize, b'\n');
+}
+
+// The processors' lines.
+fn put_rows<S: Sink>(sink: &mut S, s: Settings)
+    requires procs { s.procs ≤ most_procs }
+    requires room { length (rows_text s.procs 0 s.rounds s.hold) < S.room sink.old }
+    ensures { sink.new ≡ S.put sink.old (rows_text s.procs 0 s.rounds s.hold) }
+{
+    let entries = s.rounds.iter().zip(s.hold.iter());
+    for (i, (&rounds, &hold)) in entries.enumerate().take(s.procs as usize) {
+        put_entries(sink, i, rounds, hold);
+    }
+}
+
+// The turns, or nothing, and a line feed.
+fn put_turns<S: Sink>(sink: &mut S, turns: &[u16])
+    requires { length (turns_text turns.now) < S.room sink.old }
+    ensures { sink.new ≡ S.put sink.old (turns_text turns.now) }
+{
+    let Some((last, before)) = turns.split_last() else {
+        sink.byte(b'\n');
+        return;
+    };
+    for turn in before {
+        sink.number(*turn as usize, b',');
+    }
+    sink.number(*last as usize, b'\n');
+}
+
+// The whole file.
+#[tactic(auto, using(crate::proofs::Short::few_procs, crate::proofs::Short::in_parts))]
+pub(crate) fn put_file<S: Sink>(sink: &mut S, algo: Algo, s: Settings, schedule: &[u16])
+    requires checked { Checked s schedule.now (Ok algo) }
+    requires room { length (text (settings_of s) schedule.now) < S.room sink.old }
+    ensures { sink.new ≡ S.put sink.old (text (settings_of s) schedule.now) }
+{
+    put_front(sink, algo, s);
+    put_rows(sink, s);
+    sink.put(b"turns=");
+    put_turns(sink, schedule);
+}
