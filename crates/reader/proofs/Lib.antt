@@ -1,5 +1,4 @@
 mod Lining
 mod Passing
-mod Opening
 mod Answering
 pub mod OneOutcome

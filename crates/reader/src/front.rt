@@ -1,10 +1,11 @@
 // The five lines before the processors'.
-ghost use Rattle.std.specs.Prelude.{◌≡◌, drop};
+ghost use Rattle.std.specs.Prelude.{◌≡◌};
 ghost use Rattle.rules.specs.File.{front};
-ghost use Rattle.reader.specs.LineView.{front_of, sizes, limits};
+ghost use Rattle.tokens.specs.TokenView.{got_of};
+ghost use Rattle.reader.specs.LineView.{head_of};
 
 use settings::{LEAST_PROCS, MOST_BUDGET, MOST_PROCS, MOST_TICKET};
-use tokens::{Step, Value, field, label, name};
+use tokens::{Fault, Place};
 
 // What they say.
 #[derive(Clone, Copy)]
@@ -16,75 +17,21 @@ pub(crate) struct Head {
     pub(crate) budget: u32,
 }
 
-// The five, and the place after them; or a refusal.
-#[derive(Clone, Copy)]
-pub(crate) enum Opened {
-    Good(Head, usize),
-    Faulty(u8, usize),
-}
-
-// All five lines.
-#[tactic(auto, using(crate::proofs::Opening::fronts))]
-pub(crate) fn front(file: &[u8]) -> Opened
-    ensures { front_of file.now result ≡ front file.now 0 }
+#[tactic(auto, unfolding(rules::specs::File::front))]
+pub(crate) fn front(p: Place<'_>) -> Result<(Head, Place<'_>), Fault>
+    ensures { got_of head_of result ≡ front p.entry.rest.now p.entry.at }
 {
-    let labelled = label(file, b"algo=", 0);
-    let a = match labelled {
-        Step::No(n, p) => {
-            return Opened::Faulty(n, p);
-        }
-        Step::At(p) => p,
+    let (algo, p) = p.label(b"algo=")?.name()?;
+    let (procs, p) = p.field(b"procs=", LEAST_PROCS as usize, MOST_PROCS)?;
+    let (home, p) = p.field(b"home=", 0, procs - 1)?;
+    let (ticket, p) = p.field(b"ticket=", 0, MOST_TICKET as usize)?;
+    let (budget, p) = p.field(b"budget=", 0, MOST_BUDGET as usize)?;
+    let head = Head {
+        algo: algo.into(),
+        procs: procs as u16,
+        home: home as u16,
+        ticket: ticket as u32,
+        budget: budget as u32,
     };
-    let algo = name(file, a);
-    match algo {
-        Value::Not(n, p) => Opened::Faulty(n, p),
-        Value::Is(m, p) => sizes(file, m as u16, p),
-    }
-}
-
-// The lines from `procs=` on.
-fn sizes(file: &[u8], algo: u16, at: usize) -> Opened
-    ensures { front_of file.now result ≡ sizes algo (drop at file.now) at }
-{
-    let first = field(file, b"procs=", LEAST_PROCS as usize, MOST_PROCS, at);
-    match first {
-        Value::Not(n, p) => Opened::Faulty(n, p),
-        Value::Is(procs, p) => {
-            let second = field(file, b"home=", 0, procs - 1, p);
-            match second {
-                Value::Not(n, p) => Opened::Faulty(n, p),
-                Value::Is(home, p) => limits(file, algo, procs as u16, home as u16, p),
-            }
-        }
-    }
-}
-
-// The lines from `ticket=` on.
-fn limits(file: &[u8], algo: u16, procs: u16, home: u16, at: usize) -> Opened
-    ensures { front_of file.now result ≡ limits algo procs home (drop at file.now) at }
-{
-    let first = field(file, b"ticket=", 0, MOST_TICKET as usize, at);
-    match first {
-        Value::Not(n, p) => Opened::Faulty(n, p),
-        Value::Is(t, p) => {
-            let second = field(file, b"budget=", 0, MOST_BUDGET as usize, p);
-            match second {
-                Value::Not(n, p) => Opened::Faulty(n, p),
-                Value::Is(b, p) => {
-                    let ticket = t as u32;
-                    let budget = b as u32;
-                    Opened::Good(
-                        Head {
-                            algo,
-                            procs,
-                            home,
-                            ticket,
-                            budget,
-                        },
-                        p,
-                    )
-                }
-            }
-        }
-    }
+    Ok((head, p))
 }

@@ -6,4 +6,4 @@ mod lines;
 mod reading;
 mod schedule;
 
-pub use reading::{ReadAnswer, read};
+pub use reading::{Reading, read};

@@ -1,61 +1,39 @@
-// The turns, gone over once: judged and kept, and handed over once all is accepted.
-ghost use Rattle.std.specs.Prelude.{◌≡◌, ◌≤◌, length, take, drop};
+// The turns, gone over once: judged and kept.
+ghost use Rattle.std.specs.Prelude.{◌≡◌, ◌≤◌, length, take, IfOk};
 ghost use Rattle.rules.specs.Bounds.{most_procs, most_turns};
 ghost use Rattle.rules.specs.File.{turns};
-ghost use Rattle.rules.specs.Calls.{over};
-ghost use Rattle.tokens.specs.TokenView.{value_of};
-ghost use Rattle.reader.specs.LineView.{Gathered};
+ghost use Rattle.tokens.specs.TokenView.{got_of};
 
-use settings::{MOST_TURNS, STRAY, TOO_MANY};
-use tokens::{MALFORMED, Numeral, Value, number};
+use settings::Refusal;
+use tokens::{Fault, Place};
 
-// How many turns there are, and the place after their line feed; the turns go to a row of the reader's own. For one turn, too many comes
-// before a stray processor.
-pub(crate) fn gather(file: &[u8], procs: usize, at: usize, kept: &mut [u16]) -> Value
+// How many turns there are; the turns go to a row of the reader's own. For one turn, too many comes before a stray processor.
+#[tactic(auto, using(crate::proofs::Passing::gathers))]
+pub(crate) fn gather<'a>(
+    first: Place<'a>,
+    procs: usize,
+    kept: &mut [u16],
+) -> Result<(usize, Place<'a>), Fault>
     requires procs_le_most_procs { procs ≤ most_procs }
     requires kept_len { length kept.old ≡ most_turns }
-    ensures { Gathered (turns procs (drop at file.now) at) (value_of file.now result) kept.new }
+    ensures turns { got_of (λ n. take n kept.new) result ≡ turns procs first.entry.rest.now first.entry.at }
+    ensures room { IfOk result (λ v. v.0 ≤ most_turns) }
 {
-    if file.len() <= at {
-        return Value::Not(MALFORMED, at);
+    if let Ok(after) = first.label(b"\n") {
+        return Ok((0, after));
     }
-    if file[at] == b'\n' {
-        return Value::Is(0, at + 1);
-    }
-    let mut c: usize = 0;
-    let mut p = at;
-    loop {
-        let got = number(file, b',', b'\n', p);
-        match got {
-            Numeral::Bad(n, q) => {
-                return Value::Not(n, q);
-            }
-            Numeral::Read(v, x, q) => {
-                if c == MOST_TURNS {
-                    return Value::Not(TOO_MANY, p);
-                }
-                if v >= procs {
-                    return Value::Not(STRAY, p);
-                }
-                kept[c] = v as u16;
-                c += 1;
-                if x == b'\n' {
-                    return Value::Is(c, q);
-                }
-                p = q;
-            }
+    let mut p = first;
+    for (i, turn) in kept.iter_mut().enumerate() {
+        let (read, after) = p.number(b',', b'\n')?;
+        if read.value >= procs {
+            return Err(p.fault(Refusal::Stray));
         }
+        *turn = read.value as u16;
+        if read.separator == b'\n' {
+            return Ok((i + 1, after));
+        }
+        p = after;
     }
-}
-
-// The first n numbers of the row, into a schedule that has room for them.
-pub(crate) fn hand_over(kept: &[u16], n: usize, schedule: &mut [u16])
-    requires { (n ≤ length kept.now) × (n ≤ length schedule.old) }
-    ensures { schedule.new ≡ over (take n kept.now) schedule.old }
-{
-    let mut i: usize = 0;
-    while i < n {
-        schedule[i] = kept[i];
-        i += 1;
-    }
+    p.number(b',', b'\n')?;
+    Err(p.fault(Refusal::TooMany))
 }

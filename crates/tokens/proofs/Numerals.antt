@@ -1,61 +1,51 @@
--- Numbers at a place of the file: one law for each way out.
-use Prim.Native.Nat.{ℕ, suc, ◌+◌, ◌-◌, ◌*◌, ◌^◌, ◌≤◌, ◌<◌}
-use mathlib.Core.Path.{◌≡◌}
-use mathlib.Core.List.{List}
-use mathlib.Core.Bool.{◌&&◌, ◌||◌}
-use lib.ListN.{length, get_or, drop, drop_of_length-le}
-use lib.Dec.{ltb, eqb}
-use borrow.Author.Tests.{eq-eqb, ne_eqb, le-leb, lt-leb, lt-ltb}
+-- Numbers: one law for each way out.
+use Rattle.std.proofs.Common.{◌≡◌, ℕ, suc, ◌+◌, ◌-◌, ◌*◌, ◌^◌, ◌≤◌, ◌<◌, Bool, true, false, ◌&&◌, ◌||◌, ◌⊎◌, inl, inr, List, [], ◌∷◌, length, get_or, drop, eqb, ltb, ap, sym, ◌∙◌, arith, eq-eqb, ne_eqb, lt-ltb}
+use lib.ListN.{drop_of_length-le}
+use Rattle.std.proofs.Math.Bool.{and-false}
+use Rattle.std.proofs.lemmas.List.{nil_from_length}
 use native.Mathlib.Nat.{pow-le-pow_right}
-use native.Mathlib.Omega.{arith}
 use Rattle.rules.specs.Memory.{pick}
 use Rattle.rules.specs.Bounds.{most_digits}
-use Rattle.rules.specs.Rule.{Got, ok, fault, lit, feed, is_digit, digits, number}
-use Rattle.rules.specs.File.{ranged, field}
-use Rattle.tokens.specs.declared.places.Step.{Step}
-use Rattle.tokens.specs.declared.places.Step.TheVariants.{At, No}
-use Rattle.tokens.specs.declared.places.Numeral.{Numeral}
-use Rattle.tokens.specs.declared.places.Numeral.TheVariants.{Read, Bad}
-use Rattle.tokens.specs.declared.places.Value.{Value}
-use Rattle.tokens.specs.TokenView.{step_of, numeral_of, value_of}
+use Rattle.rules.specs.Rule.{Got, ok, fault, is_digit, digits, number}
 use Rattle.tokens.proofs.Stepping.{drop_next}
 
 -- ---- the rest of a number
 
-module _ (a b k n : ℕ) (s : List ℕ) (p : ℕ) (g : Got (ℕ × ℕ)) (e : g ≡ digits a b k n (drop p s) p) where
-  pub digits_short : length s ≤ p → fault 1 p ≡ g
+one_of : (x a b : ℕ) → (x ≡ a) ⊎ ((x ≡ a → ⊥) × (x ≡ b)) → (eqb x a || eqb x b) ≡ true
+one_of x a b (inl e) = rw (eq-eqb _ _ e)
+one_of x a b (inr e) = rw (ne_eqb _ _ e.0, eq-eqb _ _ e.1)
+
+no_more : (k : ℕ) (d : Bool) → d ≡ false → (ltb 0 k && d) ≡ false
+no_more k d e = rw (e, and-false (ltb 0 k))
+
+module _ (a b room i n : ℕ) (s : List ℕ) (at : ℕ) (g : Got (ℕ × ℕ)) (e : g ≡ digits a b (room - i) n (drop i s) (at + i)) where
+  pub digits_short : i ≤ length s → length s ≤ i → (k p : ℕ) → k ≡ 1 → p ≡ at + length s → fault k p ≡ g
   unfolding digits
-  digits_short h = rw (e, drop_of_length-le s h)
+  digits_short l h k p x y = let z : length s ≡ i = omega arith in rw (e, drop_of_length-le s h, x, y, z)
 
-  module _ (h : p < length s) where
-    next : g
-        ≡ pick (eqb (get_or s p 0) a || eqb (get_or s p 0) b) (ok (n, get_or s p 0) (drop (p + 1) s) (p + 1))
-        (pick (ltb 0 k && is_digit (get_or s p 0)) (digits a b (k - 1) (n * 10 + (get_or s p 0 - 48)) (drop (p + 1) s) (p + 1)) (fault 1 p))
+  module _ (h : i < length s) where
+    step : g
+        ≡ pick (eqb (get_or s i 0) a || eqb (get_or s i 0) b) (ok (n, get_or s i 0) (drop (i + 1) s) (at + (i + 1)))
+        (pick (ltb 0 (room - i) && is_digit (get_or s i 0)) (digits a b (room - (i + 1)) (n * 10 + (get_or s i 0 - 48)) (drop (i + 1) s) (at + (i + 1))) (fault 1 (at + i)))
     unfolding digits
-    next = rw (e, drop_next s p h)
+    step =
+        let p : at + i + 1 ≡ at + (i + 1) = omega arith in
+        let k : room - i - 1 ≡ room - (i + 1) = omega arith in
+        rw (e, drop_next s i h, p, k)
 
-    pub digits_a : get_or s p 0 ≡ a → ok (n, get_or s p 0) (drop (p + 1) s) (p + 1) ≡ g
-    digits_a ea = rw (next, eq-eqb _ _ ea)
+    pub digits_end : (get_or s i 0 ≡ a) ⊎ ((get_or s i 0 ≡ a → ⊥) × (get_or s i 0 ≡ b)) → (l : List ℕ) (p : ℕ) → l ≡ drop (i + 1) s → p ≡ at + (i + 1)
+        → ok (n, get_or s i 0) l p ≡ g
+    digits_end t l p x y = rw (step, one_of _ _ _ t, x, y)
 
-    module _ (na : get_or s p 0 ≡ a → ⊥) where
-      pub digits_b : get_or s p 0 ≡ b → ok (n, get_or s p 0) (drop (p + 1) s) (p + 1) ≡ g
-      digits_b eb = rw (next, ne_eqb _ _ na, eq-eqb _ _ eb)
+    module _ (na : get_or s i 0 ≡ a → ⊥) (nb : get_or s i 0 ≡ b → ⊥) where
+      pub digits_stop : (i ≡ room) ⊎ (is_digit (get_or s i 0) ≡ false) → (k p : ℕ) → k ≡ 1 → p ≡ at + i → fault k p ≡ g
+      digits_stop (inl z) k p x y = let w : room - i ≡ 0 = omega arith in rw (step, ne_eqb _ _ na, ne_eqb _ _ nb, w, x, y)
+      digits_stop (inr t) k p x y = rw (step, ne_eqb _ _ na, ne_eqb _ _ nb, no_more (room - i) _ t, x, y)
 
-      module _ (nb : get_or s p 0 ≡ b → ⊥) where
-        pub digits_full : k ≡ 0 → fault 1 p ≡ g
-        digits_full ek = rw (next, ne_eqb _ _ na, ne_eqb _ _ nb, ek)
+      pub digits_on : i < room → is_digit (get_or s i 0) ≡ true → g ≡ digits a b (room - (i + 1)) (n * 10 + (get_or s i 0 - 48)) (drop (i + 1) s) (at + (i + 1))
+      digits_on l t = rw (step, ne_eqb _ _ na, ne_eqb _ _ nb, lt-ltb 0 (room - i) (omega arith), t)
 
-        module _ (nk : k ≡ 0 → ⊥) where
-          pub digits_low : get_or s p 0 < 48 → fault 1 p ≡ g
-          digits_low l = rw (next, ne_eqb _ _ na, ne_eqb _ _ nb, lt-ltb 0 k (omega arith), lt-leb _ _ l)
-
-          pub digits_high : 48 ≤ get_or s p 0 → 57 < get_or s p 0 → fault 1 p ≡ g
-          digits_high m l = rw (next, ne_eqb _ _ na, ne_eqb _ _ nb, lt-ltb 0 k (omega arith), le-leb _ _ m, lt-leb _ _ l)
-
-          pub digits_on : 48 ≤ get_or s p 0 → get_or s p 0 ≤ 57 → g ≡ digits a b (k - 1) (n * 10 + (get_or s p 0 - 48)) (drop (p + 1) s) (p + 1)
-          digits_on m l = rw (next, ne_eqb _ _ na, ne_eqb _ _ nb, lt-ltb 0 k (omega arith), le-leb _ _ m, le-leb _ _ l)
-
--- ---- how great a number can be while k digits more may come
+-- ---- how great a number can be while more digits may come
 
 below_step : (k n d : ℕ) → 0 < k → k < most_digits → n < 10 ^ (most_digits - k) → d ≤ 9 → n * 10 + d < 10 ^ (most_digits - (k - 1))
 below_step k n d z h m l = let e : most_digits - (k - 1) ≡ suc (most_digits - k) = omega arith in rw e (omega arith)
@@ -63,69 +53,33 @@ below_step k n d z h m l = let e : most_digits - (k - 1) ≡ suc (most_digits - 
 below_most : (k n : ℕ) → n < 10 ^ (most_digits - k) → n < 10 ^ most_digits
 below_most k n m = omega (arith, pow-le-pow_right {n = 10} (omega arith) {i = most_digits - k} {j = most_digits} (omega arith))
 
-module _ (k n : ℕ) (h : k < most_digits) (m : n < 10 ^ (most_digits - k)) where
-  pub below_times : n * 10 < 2 ^ 64
-  below_times = omega (arith, below_most k n m)
-
-  pub below_sum : (x : ℕ) → x ≤ 57 → n * 10 + (x - 48) < 2 ^ 64
-  below_sum x l = omega (arith, below_most k n m)
-
-  pub below_next : (x : ℕ) → (k ≡ 0 → ⊥) → x ≤ 57 → n * 10 + (x - 48) < 10 ^ (most_digits - (k - 1))
-  below_next x z l = below_step k n (x - 48) (omega arith) h m (omega arith)
+pub below_next : (room i n x : ℕ) → i < room → room < most_digits → n < 10 ^ (most_digits - (room - i)) → x ≤ 57 → n * 10 + (x - 48) < 10 ^ (most_digits - (room - (i + 1)))
+below_next room i n x h r m l =
+    let e : room - i - 1 ≡ room - (i + 1) = omega arith in
+    rw e at (below_step (room - i) n (x - 48) (omega arith) (omega arith) m (omega arith))
 
 -- ---- a number
 
-module _ (a b : ℕ) (s : List ℕ) (p : ℕ) where
-  pub number_short : length s ≤ p → fault 1 p ≡ number a b (drop p s) p
+module _ (a b : ℕ) (s : List ℕ) (at : ℕ) where
+  pub number_short : length s < 1 → (k p : ℕ) → k ≡ 1 → p ≡ at → fault k p ≡ number a b s at
   unfolding number
-  number_short h = rw (drop_of_length-le s h)
+  number_short h k p x y = let e : s ≡ [] = nil_from_length s (omega arith) in rw (e, x, y)
 
-  module _ (h : p < length s) where
-    pub number_low : get_or s p 0 < 48 → fault 1 p ≡ number a b (drop p s) p
+  module _ (h : 1 ≤ length s) where
+    number_next : number a b s at ≡ number a b (get_or s 0 0 ∷ drop 1 s) at
+    number_next = ap (λ l. number a b l at) (drop_next s 0 h)
+
+    pub number_not : is_digit (get_or s 0 0) ≡ false → (k p : ℕ) → k ≡ 1 → p ≡ at → fault k p ≡ number a b s at
     unfolding number
-    number_low l = rw (drop_next s p h, lt-leb _ _ l)
+    number_not t k p x y = rw (x, y) (sym (number_next ∙ rw t))
 
-    pub number_high : 48 ≤ get_or s p 0 → 57 < get_or s p 0 → fault 1 p ≡ number a b (drop p s) p
+    pub number_digits : is_digit (get_or s 0 0) ≡ true → (room : ℕ) → room ≡ pick (eqb (get_or s 0 0) 48) 0 (most_digits - 1)
+        → (l : List ℕ) (p : ℕ) → l ≡ drop 1 s → p ≡ at + 1 → (r : Got (ℕ × ℕ)) → r ≡ digits a b room (get_or s 0 0 - 48) l p → r ≡ number a b s at
     unfolding number
-    number_high m l = rw (drop_next s p h, le-leb _ _ m, lt-leb _ _ l)
-
-    module _ (m : 48 ≤ get_or s p 0) (l : get_or s p 0 ≤ 57) (r : Numeral) where
-      pub number_zero : get_or s p 0 ≡ 48 → numeral_of s r ≡ digits a b 0 0 (drop (p + 1) s) (p + 1) → numeral_of s r ≡ number a b (drop p s) p
-      unfolding number
-      number_zero z e = rw (drop_next s p h, z) e
-
-      pub number_more : (get_or s p 0 ≡ 48 → ⊥) → numeral_of s r ≡ digits a b (most_digits - 1) (get_or s p 0 - 48) (drop (p + 1) s) (p + 1)
-          → numeral_of s r ≡ number a b (drop p s) p
-      unfolding number
-      number_more z e = rw (drop_next s p h, le-leb _ _ m, le-leb _ _ l, ne_eqb _ _ z) e
-
--- ---- a number in its range
-
-module _ (x lo hi : ℕ) (s : List ℕ) (at : ℕ) (r : Numeral) (e : numeral_of s r ≡ number x x (drop at s) at) where
-  pub ranged_bad : (n p : ℕ) → r ≡ Bad n p → fault n p ≡ ranged x lo hi (drop at s) at
-  ranged_bad n p f = rw (← e, f)
-
-  module _ (v y p : ℕ) (f : r ≡ Read v y p) where
-    pub ranged_low : v < lo → fault 3 at ≡ ranged x lo hi (drop at s) at
-    ranged_low l = rw (← e, f, lt-leb _ _ l)
-
-    pub ranged_high : lo ≤ v → hi < v → fault 3 at ≡ ranged x lo hi (drop at s) at
-    ranged_high m l = rw (← e, f, le-leb _ _ m, lt-leb _ _ l)
-
-    pub ranged_ok : lo ≤ v → v ≤ hi → ok v (drop p s) p ≡ ranged x lo hi (drop at s) at
-    ranged_ok m l = rw (← e, f, le-leb _ _ m, le-leb _ _ l)
-
--- ---- a field
-
-module _ (l : List ℕ) (lo hi : ℕ) (s : List ℕ) (at : ℕ) (r : Step) (e : step_of s r ≡ lit l (drop at s) at) where
-  pub field_bad : (n p : ℕ) → r ≡ No n p → fault n p ≡ field l lo hi (drop at s) at
-  field_bad n p f = rw (← e, f)
-
-  pub field_number : (p : ℕ) → r ≡ At p → (q : Value) → value_of s q ≡ ranged feed lo hi (drop p s) p → value_of s q ≡ field l lo hi (drop at s) at
-  field_number p f q g = rw (← e, f, g)
+    number_digits t room e l p x y r f = f ∙ rw (x, y) (sym (number_next ∙ rw (t, e)))
 
 -- what `digits` keeps and returns
-pub ruleset digits_ways = (digits_short, digits_a, digits_b, digits_full, digits_low, digits_high, digits_on, below_next)
+pub ruleset digits_ways = (digits_short, digits_end, digits_on, below_next)
 
 -- what `number` returns
-pub ruleset number_ways = (number_short, number_low, number_high, number_zero, number_more)
+pub ruleset number_ways = (number_short, number_not)

@@ -1,47 +1,40 @@
--- What is read at a place has one outcome: the promises name the value and the place after it, or the refusal, and leave no choice.
-use mathlib.Core.Path.{◌≡◌, refl, sym, ap, ◌∙◌}
-use mathlib.Core.List.{List}
-use Prim.Native.Nat.{ℕ}
-use native.Mathlib.Omega.{arith}
-use Rattle.rules.specs.Rule.{Got, ok, fault}
-use Rattle.tokens.specs.declared.places.Step.{Step}
-use Rattle.tokens.specs.declared.places.Step.TheVariants.{At, No}
-use Rattle.tokens.specs.declared.places.Numeral.{Numeral}
-use Rattle.tokens.specs.declared.places.Numeral.TheVariants.{Read, Bad}
-use Rattle.tokens.specs.declared.places.Value.{Value}
-use Rattle.tokens.specs.declared.places.Value.TheVariants.{Is, Not}
-use Rattle.tokens.specs.TokenView.{step_of, numeral_of, value_of}
+-- What is read at a place has one outcome: the promises name the value, the bytes that are left and their place, or the fault, and leave no choice.
+use Rattle.std.proofs.Common.{◌≡◌, Result, Ok, Err, sym, ◌∙◌}
+use Rattle.rules.specs.Rule.{Got, fault}
+use Rattle.settings.specs.Numbers.{refusal_number}
+use Rattle.settings.proofs.Outcome.{same_refusal}
+use Rattle.tokens.specs.declared.fault.Fault.{Fault}
+use Rattle.tokens.specs.declared.place.Place.{Place}
+use Rattle.tokens.specs.TokenView.{got_of, place_of}
 
--- `label`
-pub one_step : (s : List ℕ) (g : Got (Unit {0})) (r q : Step) → step_of s r ≡ g → step_of s q ≡ g → r ≡ q
-one_step s g (At a) (At b) x y = let e = x ∙ sym y in cc
-one_step s g (At a) (No n p) x y = let e = x ∙ sym y in let z : ◌≡◌ {A = ℕ} 0 1 = cc in absurd (omega arith)
-one_step s g (No n p) (At b) x y = let e = x ∙ sym y in let z : ◌≡◌ {A = ℕ} 0 1 = cc in absurd (omega arith)
-one_step s g (No n p) (No m q) x y = let e = x ∙ sym y in cc
+-- two places are the same but for where in memory the bytes are
+abbrev pub SamePlace : Place → Place → Type 0
+SamePlace p q = (p.rest.now ≡ q.rest.now) × (p.at ≡ q.at)
 
--- `number`
-abbrev pair : Got (ℕ × ℕ) → ℕ × ℕ
-pair (ok p s at) = p
-pair (fault n p) = (0, 0)
+abbrev pub Same : {T : Type 0} → (T → T → Type 0) → Result T Fault → Result T Fault → Type 0
+Same S (Ok v) (Ok w) = S v w
+Same S (Ok v) (Err e) = ⊥
+Same S (Err e) (Ok v) = ⊥
+Same S (Err e) (Err d) = e ≡ d
 
-abbrev place : Got (ℕ × ℕ) → ℕ
-place (ok p s at) = at
-place (fault n p) = p
+pub one_fault : {A : Type 0} (e d : Fault) → ◌≡◌ {A = Got A} (fault (refusal_number e.refusal) e.place) (fault (refusal_number d.refusal) d.place) → e ≡ d
+one_fault e d h =
+    let f : refusal_number e.refusal ≡ refusal_number d.refusal = cc in
+    let k : e.place ≡ d.place = cc in
+    let r = same_refusal e.refusal d.refusal f in
+    λ i. record { refusal = r i; place = k i }
 
-pub one_numeral : (s : List ℕ) (g : Got (ℕ × ℕ)) (r q : Numeral) → numeral_of s r ≡ g → numeral_of s q ≡ g → r ≡ q
-one_numeral s g (Read v c a) (Read w d b) x y =
-    let e = x ∙ sym y in
-    let f : v ≡ w = ap (λ (h : Got (ℕ × ℕ)). (pair h).0) e in
-    let k : c ≡ d = ap (λ (h : Got (ℕ × ℕ)). (pair h).1) e in
-    let l : a ≡ b = ap place e in
-    rw (f, k, l) refl
-one_numeral s g (Read v c a) (Bad n p) x y = let e = x ∙ sym y in let z : ◌≡◌ {A = ℕ} 0 1 = cc in absurd (omega arith)
-one_numeral s g (Bad n p) (Read w d b) x y = let e = x ∙ sym y in let z : ◌≡◌ {A = ℕ} 0 1 = cc in absurd (omega arith)
-one_numeral s g (Bad n p) (Bad m q) x y = let e = x ∙ sym y in cc
+-- `label` and `end`
+pub one_place : (g : Got (Unit {0})) (r q : Result Place Fault) → place_of r ≡ g → place_of q ≡ g → Same SamePlace r q
+one_place g (Ok p) (Ok q) x y = let e = x ∙ sym y in (cc, cc)
+one_place g (Ok p) (Err d) x y = let e = x ∙ sym y in cc
+one_place g (Err e) (Ok q) x y = let e = x ∙ sym y in cc
+one_place g (Err e) (Err d) x y = one_fault e d (x ∙ sym y)
 
--- `name`, `ranged` and `field`
-pub one_value : (s : List ℕ) (g : Got ℕ) (r q : Value) → value_of s r ≡ g → value_of s q ≡ g → r ≡ q
-one_value s g (Is v a) (Is w b) x y = let e = x ∙ sym y in cc
-one_value s g (Is v a) (Not n p) x y = let e = x ∙ sym y in let z : ◌≡◌ {A = ℕ} 0 1 = cc in absurd (omega arith)
-one_value s g (Not n p) (Is w b) x y = let e = x ∙ sym y in let z : ◌≡◌ {A = ℕ} 0 1 = cc in absurd (omega arith)
-one_value s g (Not n p) (Not m q) x y = let e = x ∙ sym y in cc
+-- `name`, `number`, `ranged` and `field`, whose values f tells apart
+pub one_value : {T A : Type 0} (f : T → A) → ((v w : T) → f v ≡ f w → v ≡ w) → (g : Got A) (r q : Result (T × Place) Fault) → got_of f r ≡ g → got_of f q ≡ g
+    → Same (λ v w. (v.0 ≡ w.0) × SamePlace v.1 w.1) r q
+one_value f t g (Ok v) (Ok w) x y = let e = x ∙ sym y in (t v.0 w.0 cc, (cc, cc))
+one_value f t g (Ok v) (Err d) x y = let e = x ∙ sym y in cc
+one_value f t g (Err e) (Ok w) x y = let e = x ∙ sym y in cc
+one_value f t g (Err e) (Err d) x y = one_fault e d (x ∙ sym y)

@@ -1,142 +1,86 @@
--- Names at a place of the file: one law for each way out.
-use Prim.Native.Nat.{ℕ, suc, ◌+◌, ◌-◌, ◌≤◌, ◌<◌}
-use mathlib.Core.Path.{◌≡◌, ◌∙◌}
-use mathlib.Core.List.{List, [], ◌∷◌, ◌++◌}
-use mathlib.Core.Bool.{Bool, true, false}
-use lib.ListN.{length, get_or, drop, drop_of_length-le, length-drop}
-use lib.Seq.{take-suc, get_or-drop}
-use borrow.Author.Tests.{eq-eqb, ne_eqb, le-leb, lt-leb, lt-ltb}
-use native.Mathlib.Omega.{arith}
+-- Names: the word, and the name that it is.
+use Rattle.std.proofs.Common.{◌≡◌, ℕ, suc, zero, ◌+◌, ◌-◌, Bool, true, false, ◌&&◌, cond, List, [], ◌∷◌, ◌++◌, take, drop, eqb, leb, ltb, refl, sym, ◌∙◌, arith, ne_eqb, lt-ltb, append_assoc}
+use mathlib.Core.List.{append-nil}
+use Rattle.std.proofs.Math.Bool.{and-false}
+use Rattle.std.proofs.lemmas.Bool.{leb-true}
+use Rattle.std.specs.List.{prefix_len}
+use Rattle.rules.proofs.Store.{left_of}
 use Rattle.rules.specs.Memory.{pick}
-use Rattle.rules.specs.Machines.{Line, same, named}
 use Rattle.rules.specs.Bounds.{most_letters}
-use Rattle.rules.specs.Rule.{Got, ok, fault, feed, letters, word}
-use Rattle.rules.specs.File.{name}
-use Rattle.tokens.specs.declared.places.Step.{Step}
-use Rattle.tokens.specs.declared.places.Step.TheVariants.{At, No}
-use Rattle.tokens.specs.TokenView.{part, word_of, passed}
-use Rattle.tokens.proofs.Stepping.{drop_next}
+use Rattle.rules.specs.Rule.{Got, ok, fault, after, give, lit, feed, is_lower, letters, word}
+
+-- how many letters come, of at most k
+abbrev pub run : ℕ → List ℕ → ℕ
+run k s = prefix_len is_lower (take k s)
+
+-- a line feed and then this value
+abbrev fed : List ℕ → List ℕ → ℕ → Got (List ℕ)
+fed w s at = after (lit (feed ∷ []) s at) (λ _. give w)
+
+-- no letter comes
+none_comes : (w s : List ℕ) (at : ℕ) → fed (w ++ []) s (at + 0) ≡ fed w s at
+none_comes w s at = let e : at + 0 ≡ at = omega arith in rw (append-nil w, e)
+
+feed_or : (t : Bool) (w s : List ℕ) (at : ℕ) → pick t (ok w s (at + 1)) (fault 1 at) ≡ after (pick t (ok (tt {0}) s (at + 1)) (fault 1 at)) (λ _. give w)
+feed_or true w s at = refl
+feed_or false w s at = refl
+
+-- the letters that come, and what must follow them
+letters_run : (k : ℕ) (w s : List ℕ) (at : ℕ) → letters k w s at ≡ fed (w ++ take (run k s) s) (drop (run k s) s) (at + run k s)
+unfolding letters lit
+letters_run zero w [] at = sym (none_comes w [] at)
+letters_run zero w (x ∷ s) at = feed_or (eqb x feed) w s at ∙ sym (none_comes w (x ∷ s) at)
+letters_run (suc k) w [] at = sym (none_comes w [] at)
+letters_run (suc k) w (x ∷ s) at = go (letters_run k (w ++ x ∷ []) s (at + 1)) (is_lower x) refl
+  where
+    n : ℕ
+    n = run k s
+
+    go : letters k (w ++ x ∷ []) s (at + 1) ≡ fed ((w ++ x ∷ []) ++ take n s) (drop n s) (at + 1 + n) → (t : Bool) → is_lower x ≡ t
+        → pick (eqb x feed) (ok w s (at + 1)) (pick (ltb 0 (suc k) && t) (letters (suc k - 1) (w ++ x ∷ []) s (at + 1)) (fault 1 at))
+        ≡ fed (w ++ take (cond t (1 + n) 0) (x ∷ s)) (drop (cond t (1 + n) 0) (x ∷ s)) (at + cond t (1 + n) 0)
+    go h true e =
+        let l : leb 97 x ≡ true = left_of (leb 97 x) (leb x 122) e in
+        let nx : eqb x feed ≡ false = ne_eqb _ _ (λ z. let m = leb-true 97 x l in omega arith) in
+        let m : ltb 0 (suc k) ≡ true = lt-ltb 0 (suc k) (omega arith) in
+        let p : suc k - 1 ≡ k = omega arith in
+        let q : 1 + n ≡ suc n = omega arith in
+        let r : at + 1 + n ≡ at + suc n = omega arith in
+        rw (nx, m, p, q) (h ∙ rw (r, append_assoc))
+    go h false e = rw (and-false (ltb 0 (suc k))) (feed_or (eqb x feed) w s at ∙ sym (none_comes w (x ∷ s) at))
 
 -- ---- a word
 
-part_snoc : (s : List ℕ) (a p : ℕ) → a ≤ p → p < length s → part s a (p + 1) ≡ part s a p ++ get_or s p 0 ∷ []
-part_snoc s a p h l =
-    let e : p + 1 - a ≡ suc (p - a) = omega arith in
-    let f : a + (p - a) ≡ p = omega arith in
-    let k : p - a < length (drop a s) = simp length-drop (omega arith) in
-    rw (e, take-suc (drop a s) (p - a) 0 k, get_or-drop, f)
+word_run : (s : List ℕ) (at : ℕ) → word s at ≡ pick (eqb (run most_letters s) 0) (fault 1 at) (fed (take (run most_letters s) s) (drop (run most_letters s) s) (at + run most_letters s))
+unfolding word
+word_run [] at = refl
+word_run (x ∷ s) at = go (is_lower x)
+  where
+    n : ℕ
+    n = run (most_letters - 1) s
 
-part_one : (s : List ℕ) (a : ℕ) → a < length s → part s a (a + 1) ≡ get_or s a 0 ∷ []
-part_one s a l = let z : a - a ≡ 0 = omega arith in rw (part_snoc s a a (omega arith) l, z)
+    go : (t : Bool) → pick t (letters (most_letters - 1) (x ∷ []) s (at + 1)) (fault 1 at)
+        ≡ pick (eqb (cond t (1 + n) 0) 0) (fault 1 at) (fed (take (cond t (1 + n) 0) (x ∷ s)) (drop (cond t (1 + n) 0) (x ∷ s)) (at + cond t (1 + n) 0))
+    go true =
+        let p : 1 + n ≡ suc n = omega arith in
+        let q : eqb (suc n) 0 ≡ false = ne_eqb _ _ (omega arith) in
+        let r : at + 1 + n ≡ at + suc n = omega arith in
+        letters_run (most_letters - 1) (x ∷ []) s (at + 1) ∙ rw (p, q, r)
+    go false = refl
 
-module _ (s : List ℕ) (p : ℕ) where
-  pub word_short : length s ≤ p → fault 1 p ≡ word (drop p s) p
-  unfolding word
-  word_short h = rw (drop_of_length-le s h)
+module _ (s : List ℕ) (at n : ℕ) (e : n ≡ run most_letters s) where
+  pub word_none : n ≡ 0 → (k p : ℕ) → k ≡ 1 → p ≡ at → fault k p ≡ word s at
+  word_none z k p x y = let f : run most_letters s ≡ 0 = sym e ∙ z in rw (x, y) (sym (word_run s at ∙ rw f))
 
-  module _ (h : p < length s) where
-    pub word_low : get_or s p 0 < 97 → fault 1 p ≡ word (drop p s) p
-    unfolding word
-    word_low l = rw (drop_next s p h, lt-leb _ _ l)
+  module _ (z : n ≡ 0 → ⊥) (l : List ℕ) (p : ℕ) (h : l ≡ drop n s) (k : p ≡ at + n) where
+    word_some : word s at ≡ fed (take n s) l p
+    word_some = let m : eqb (run most_letters s) 0 ≡ false = ne_eqb _ _ (λ y. z (e ∙ y)) in word_run s at ∙ rw (m, ← e, h, k)
 
-    pub word_high : 97 ≤ get_or s p 0 → 122 < get_or s p 0 → fault 1 p ≡ word (drop p s) p
-    unfolding word
-    word_high m l = rw (drop_next s p h, le-leb _ _ m, lt-leb _ _ l)
+    pub word_unfed : (i q : ℕ) → fault i q ≡ lit (feed ∷ []) l p → fault i q ≡ word s at
+    word_unfed i q f = rw (word_some, ← f)
 
-    pub word_starts : 97 ≤ get_or s p 0 → get_or s p 0 ≤ 122 → word (drop p s) p ≡ letters (most_letters - 1) (part s p (p + 1)) (drop (p + 1) s) (p + 1)
-    unfolding word
-    word_starts m l = rw (part_one s p h, drop_next s p h, le-leb _ _ m, le-leb _ _ l)
+    pub word_fed : (l' : List ℕ) (q : ℕ) → ok tt l' q ≡ lit (feed ∷ []) l p → ok (take n s) l' q ≡ word s at
+    word_fed l' q f = rw (word_some, ← f)
 
-module _ (k : ℕ) (s : List ℕ) (a p : ℕ) (g : Got (List ℕ)) (e : g ≡ letters k (part s a p) (drop p s) p) where
-  pub letters_short : length s ≤ p → fault 1 p ≡ g
-  unfolding letters
-  letters_short h = rw (e, drop_of_length-le s h)
-
-  module _ (h : p < length s) where
-    pub letters_end : get_or s p 0 ≡ feed → ok (part s a (p + 1 - 1)) (drop (p + 1) s) (p + 1) ≡ g
-    unfolding letters
-    letters_end x = let f : p + 1 - 1 ≡ p = omega arith in rw (f, e, drop_next s p h, eq-eqb _ _ x)
-
-    module _ (nx : get_or s p 0 ≡ feed → ⊥) where
-      pub letters_full : k ≡ 0 → fault 1 p ≡ g
-      unfolding letters
-      letters_full z = rw (e, drop_next s p h, ne_eqb _ _ nx, z)
-
-      module _ (nz : k ≡ 0 → ⊥) where
-        pub letters_low : get_or s p 0 < 97 → fault 1 p ≡ g
-        unfolding letters
-        letters_low l = rw (e, drop_next s p h, ne_eqb _ _ nx, lt-ltb 0 k (omega arith), lt-leb _ _ l)
-
-        pub letters_high : 97 ≤ get_or s p 0 → 122 < get_or s p 0 → fault 1 p ≡ g
-        unfolding letters
-        letters_high m l = rw (e, drop_next s p h, ne_eqb _ _ nx, lt-ltb 0 k (omega arith), le-leb _ _ m, lt-leb _ _ l)
-
-        pub letters_on : a < p → 97 ≤ get_or s p 0 → get_or s p 0 ≤ 122 → g ≡ letters (k - 1) (part s a (p + 1)) (drop (p + 1) s) (p + 1)
-        unfolding letters
-        letters_on b m l = rw (part_snoc s a p (omega arith) h, e, drop_next s p h, ne_eqb _ _ nx, lt-ltb 0 k (omega arith), le-leb _ _ m, le-leb _ _ l)
-
--- ---- two texts
-
-module _ (a b : List ℕ) (i : ℕ) (g : Bool) (e : g ≡ same (drop i a) (drop i b)) where
-  pub same_ends : length a ≤ i → length b ≤ i → true ≡ g
-  same_ends h k = rw (e, drop_of_length-le a h, drop_of_length-le b k)
-
-  pub same_less : length a ≤ i → i < length b → false ≡ g
-  same_less h k = rw (e, drop_of_length-le a h, drop_next b i k)
-
-  module _ (h : i < length a) where
-    pub same_more : length b ≤ i → false ≡ g
-    same_more k = rw (e, drop_next a i h, drop_of_length-le b k)
-
-    pub same_not : i < length b → (get_or a i 0 ≡ get_or b i 0 → ⊥) → false ≡ g
-    same_not k n = rw (e, drop_next a i h, drop_next b i k, ne_eqb _ _ n)
-
-    pub same_on : i < length b → get_or a i 0 ≡ get_or b i 0 → g ≡ same (drop (i + 1) a) (drop (i + 1) b)
-    same_on k n = rw (e, drop_next a i h, drop_next b i k, eq-eqb _ _ n)
-
--- ---- the table of names
-
-module _ (t b : Bool) (e : t ≡ b) (x y : ℕ) where
-  pub either_yes : t ≡ true → x ≡ pick b x y
-  either_yes h = rw (← e, h)
-
-  pub either_no : t ≡ false → y ≡ pick b x y
-  either_no h = rw (← e, h)
-
--- a line, and the lines after it
-pub line_number : (b : Bool) (r m : ℕ) (x y : Line) → r ≡ pick b x.number m → m ≡ y.number → r ≡ (pick b x y).number
-line_number true r m x y e f = e
-line_number false r m x y e f = e ∙ f
-
--- ---- a name
-
-module _ (s : List ℕ) (at : ℕ) (r : Step) (e : word_of s at r ≡ word (drop at s) at) where
-  pub name_bad : (n p : ℕ) → r ≡ No n p → fault n p ≡ name (drop at s) at
-  name_bad n p f = rw (← e, f)
-
-  module _ (p : ℕ) (f : r ≡ At p) (m : ℕ) (k : m ≡ (named (part s at (p - 1))).number) where
-    pub name_unknown : m ≡ 0 → fault 2 at ≡ name (drop at s) at
-    name_unknown z = rw (← e, f, ← k, z)
-
-    pub name_known : (m ≡ 0 → ⊥) → ok m (drop p s) p ≡ name (drop at s) at
-    name_known z = rw (← e, f, ← k, lt-ltb 0 m (omega arith), ← k)
-
--- a word that was read goes forward
-module _ (n at : ℕ) (r : Step) (h : passed n at r) (p : ℕ) (e : r ≡ At p) where
-  took : (at < p) × (p ≤ n)
-  took = rw e at h
-
-  pub took_one : 1 ≤ p
-  took_one = omega (arith, took)
-
-  pub took_start : at ≤ p - 1
-  took_start = omega (arith, took)
-
-  pub took_end : p - 1 ≤ n
-  took_end = omega (arith, took)
-
--- what `word` keeps and returns
-pub ruleset words = (word_short, word_low, word_high, word_starts, letters_short, letters_end, letters_full, letters_low, letters_high, letters_on)
-
--- what `same` returns
-pub ruleset sames = (same_less, same_more)
+-- what `word` returns
+pub ruleset words = (word_none, word_fed)

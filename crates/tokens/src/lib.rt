@@ -1,10 +1,11 @@
-// A label, a name or a number, read at a place of a file.
+// A label, a name or a number, read from a place of a file on.
 #![tactic(auto)]
 
+mod fault;
 mod names;
 mod numbers;
-mod places;
+mod place;
 
-pub use names::name;
-pub use numbers::{field, number, ranged};
-pub use places::{MALFORMED, Numeral, Step, Value, label};
+pub use fault::Fault;
+pub use numbers::Numeral;
+pub use place::Place;

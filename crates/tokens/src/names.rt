@@ -1,114 +1,50 @@
 // The machine's name.
-ghost use Rattle.std.specs.Prelude.{◌≡◌, length, drop};
-ghost use Rattle.rules.specs.Memory.{pick};
-ghost use Rattle.rules.specs.Machines.{same, named};
-ghost use Rattle.rules.specs.Rule.{word};
-ghost use Rattle.rules.specs.File.{name};
-ghost use Rattle.tokens.specs.TokenView.{word_of, value_of, passed};
+ghost use Rattle.std.specs.Prelude.{◌≡◌, take};
+ghost use Rattle.std.specs.List.{prefix_len};
+ghost use Rattle.rules.specs.Bounds.{most_letters};
+ghost use Rattle.rules.specs.Rule.{is_lower};
 
-use crate::places::{MALFORMED, Step, Value};
-use settings::{CENTRAL, DISSEM, MCS, TICKET, TREE, UNKNOWN};
+use crate::fault::Fault;
+use crate::place::Place;
+use settings::{Algo, Refusal};
 
 const MOST_LETTERS: usize = 8;
 
-// The place after 1 to 8 lower-case letters and their line feed.
-#[tactic(auto, using(crate::proofs::Spelling::words))]
-fn word(file: &[u8], at: usize) -> Step
-    ensures result_value { word_of file.now at result ≡ word (drop at file.now) at }
-    ensures passed { passed (length file.now) at result }
+// With how many lower-case letters a text begins, of which at most 8 are counted.
+fn letters(text: &[u8]) -> usize
+    ensures { result ≡ prefix_len is_lower (take most_letters text.now) }
 {
-    if file.len() <= at {
-        return Step::No(MALFORMED, at);
-    }
-    let first = file[at];
-    if first < b'a' {
-        return Step::No(MALFORMED, at);
-    }
-    if b'z' < first {
-        return Step::No(MALFORMED, at);
-    }
-    let mut k: usize = MOST_LETTERS - 1;
-    let mut p = at + 1;
-    loop {
-        if file.len() <= p {
-            return Step::No(MALFORMED, p);
-        }
-        let x = file[p];
-        if x == b'\n' {
-            return Step::At(p + 1);
-        }
-        if k == 0 {
-            return Step::No(MALFORMED, p);
-        }
-        if x < b'a' {
-            return Step::No(MALFORMED, p);
-        }
-        if b'z' < x {
-            return Step::No(MALFORMED, p);
-        }
-        k -= 1;
-        p += 1;
-    }
+    text.iter()
+        .take(MOST_LETTERS)
+        .take_while(|x| x.is_ascii_lowercase())
+        .count()
 }
 
-// Whether two texts are the same.
-#[tactic(auto, using(crate::proofs::Spelling::sames))]
-fn same(a: &[u8], b: &[u8]) -> bool
-    ensures { result ≡ same a.now b.now }
-{
-    let mut i = 0;
-    loop {
-        if a.len() <= i {
-            if b.len() <= i {
-                return true;
-            }
-            return false;
+impl<'a> Place<'a> {
+    ghost use Rattle.settings.specs.Numbers.{algo_number};
+    ghost use Rattle.rules.specs.Rule.{word};
+    ghost use Rattle.rules.specs.File.{name};
+    ghost use Rattle.tokens.specs.TokenView.{got_of};
+
+    // 1 to 8 lower-case letters, and the place after their line feed.
+    #[tactic(auto, using(crate::proofs::Spelling::words))]
+    fn word(self) -> Result<(&'a [u8], Place<'a>), Fault>
+        ensures { got_of (λ w. w.now) result ≡ word self.entry.rest.now self.entry.at }
+    {
+        let n = letters(self.rest);
+        if n == 0 {
+            return Err(self.fault(Refusal::Malformed));
         }
-        if b.len() <= i {
-            return false;
-        }
-        if a[i] != b[i] {
-            return false;
-        }
-        i += 1;
+        let after = self.after(n).label(b"\n")?;
+        Ok((&self.rest[..n], after))
     }
-}
 
-// The number of a word that is the name; otherwise the name's number among the others.
-fn either(name: &[u8], word: &[u8], number: u16, others: u16) -> u16
-    ensures { result ≡ pick (same name.now word.now) number others }
-{
-    if same(name, word) {
-        return number;
-    }
-    others
-}
-
-// The number of the machine of that name; 0 for none.
-fn named(name: &[u8]) -> u16
-    ensures { result ≡ (named name.now).number }
-{
-    let n = either(name, b"tree", TREE, 0);
-    let n = either(name, b"dissem", DISSEM, n);
-    let n = either(name, b"central", CENTRAL, n);
-    let n = either(name, b"mcs", MCS, n);
-    either(name, b"ticket", TICKET, n)
-}
-
-// A known name, by its number.
-pub fn name(file: &[u8], at: usize) -> Value
-    ensures { value_of file.now result ≡ name (drop at file.now) at }
-{
-    let got = word(file, at);
-    match got {
-        Step::No(n, p) => Value::Not(n, p),
-        Step::At(p) => {
-            let end = p - 1;
-            let m = named(&file[at..end]);
-            if m == 0 {
-                return Value::Not(UNKNOWN, at);
-            }
-            Value::Is(m as usize, p)
-        }
+    // A known name.
+    pub fn name(self) -> Result<(Algo, Place<'a>), Fault>
+        ensures { got_of algo_number result ≡ name self.entry.rest.now self.entry.at }
+    {
+        let (word, after) = self.word()?;
+        let algo = Algo::named(word).ok_or(self.fault(Refusal::Unknown))?;
+        Ok((algo, after))
     }
 }

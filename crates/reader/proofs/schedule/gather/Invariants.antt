@@ -1,13 +1,8 @@
--- `reader::schedule::gather` meets its contract.
-use Prim.Native.Nat.{◌-◌}
-use lib.ListN.{drop}
+-- `reader::schedule::gather` meets its contract. The loop keeps: the turns are what is left of them after those in the row.
+use Rattle.std.proofs.Common.{◌≡◌, ◌-◌, take}
 use Rattle.rules.specs.Bounds.{most_turns}
-use Rattle.rules.specs.File.{turns}
-use Rattle.reader.proofs.Passing.{Gathering}
+use Rattle.rules.specs.File.{turns, items}
 use Rattle.reader.proofs.schedule.gather.Given as goal
 
-abbrev pub invariant-loop-n : goal.invariant-loop-n
-invariant-loop-n l = Gathering (turns l.procs (drop l.at l.file) l.at) l.procs l.c l.file l.p l.kept
-
-abbrev pub decreases-loop-n : goal.decreases-loop-n
-decreases-loop-n l = most_turns - l.c
+abbrev pub invariant-loop-i : goal.invariant-loop-i
+invariant-loop-i l = turns l.procs l.first.rest.now l.first.at ≡ items (most_turns - l.i) l.procs (take l.i l.kept) l.p.rest.now l.p.at
