@@ -13,7 +13,6 @@ use Rattle.settings.specs.declared.refusal.Refusal.{Refusal}
 use Rattle.settings.specs.declared.refusal.Refusal.TheVariants.{TooShort}
 use Rattle.settings.specs.declared.record.Settings.{Settings}
 use Rattle.settings.proofs.Outcome.{refused}
-use Rattle.writer.specs.FileView.{file_text}
 use Rattle.writer.specs.SinkView.{over}
 use Rattle.writer.specs.WriteView.{WriteIs}
 use Rattle.writer.proofs.Short.{allowed}

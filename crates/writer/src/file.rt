@@ -4,26 +4,11 @@ ghost use Rattle.rules.specs.Bounds.{most_procs};
 ghost use Rattle.rules.specs.File.{entries_text, rows_text, turns_text, text};
 ghost use Rattle.rules.specs.Machines.{bytes};
 ghost use Rattle.rules.specs.Rule.{feed};
-ghost use Rattle.settings.specs.Numbers.{algo_name};
-ghost use Rattle.settings.specs.View.{settings_of, Checked};
-ghost use Rattle.writer.specs.FileView.{front_text};
+ghost use Rattle.settings.specs.Numbers.{algo_name, algo_number};
+ghost use Rattle.settings.specs.View.{settings_of};
 
 use crate::sink::Sink;
 use settings::{Algo, Settings};
-
-// The lines before the processors'.
-fn put_front<S: Sink>(sink: &mut S, algo: Algo, s: Settings)
-    requires { length (front_text algo (settings_of s)) < S.room sink.old }
-    ensures { sink.new ≡ S.put sink.old (front_text algo (settings_of s)) }
-{
-    sink.put(b"algo=");
-    sink.put(algo.name());
-    sink.byte(b'\n');
-    sink.field(b"procs=", s.procs as usize);
-    sink.field(b"home=", s.home as usize);
-    sink.field(b"ticket=", s.ticket as usize);
-    sink.field(b"budget=", s.budget as usize);
-}
 
 // Processor i's line.
 fn put_entries<S: Sink>(sink: &mut S, i: usize, rounds: u16, hold: u16)
@@ -64,13 +49,20 @@ fn put_turns<S: Sink>(sink: &mut S, turns: &[u16])
 }
 
 // The whole file.
-#[tactic(auto, using(crate::proofs::Short::few_procs, crate::proofs::Short::in_parts))]
+#[tactic(auto, unfolding(rules::specs::File::text, settings::specs::Numbers::algo_name))]
 pub(crate) fn put_file<S: Sink>(sink: &mut S, algo: Algo, s: Settings, schedule: &[u16])
-    requires checked { Checked s schedule.now (Ok algo) }
+    requires algo { s.algo ≡ algo_number algo }
+    requires procs { s.procs ≤ most_procs }
     requires room { length (text (settings_of s) schedule.now) < S.room sink.old }
     ensures { sink.new ≡ S.put sink.old (text (settings_of s) schedule.now) }
 {
-    put_front(sink, algo, s);
+    sink.put(b"algo=");
+    sink.put(algo.name());
+    sink.byte(b'\n');
+    sink.field(b"procs=", s.procs as usize);
+    sink.field(b"home=", s.home as usize);
+    sink.field(b"ticket=", s.ticket as usize);
+    sink.field(b"budget=", s.budget as usize);
     put_rows(sink, s);
     sink.put(b"turns=");
     put_turns(sink, schedule);
