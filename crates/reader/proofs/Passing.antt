@@ -1,6 +1,5 @@
 -- The turns: one law for each way out.
-use Rattle.std.proofs.Common.{◌≡◌, ℕ, zero, suc, ◌+◌, ◌-◌, ◌≤◌, ◌<◌, Bool, true, false, List, [], ◌∷◌, ◌++◌, length, take, set, eqb, refl, arith, add-one, eq-eqb, ne_eqb, lt-ltb, le-ltb}
-use Rattle.std.proofs.Math.Seq.{take-suc-set}
+use Rattle.std.proofs.Common.{◌≡◌, ℕ, zero, suc, ◌+◌, ◌-◌, ◌≤◌, ◌<◌, Bool, true, false, List, [], ◌∷◌, ◌++◌, length, take, set, eqb, refl, arith, add-one, eq-eqb, ne_eqb, lt-ltb, le-ltb, take-suc-set}
 use Rattle.rules.specs.Memory.{pick}
 use Rattle.rules.specs.Bounds.{most_turns}
 use Rattle.rules.specs.Rule.{Got, ok, fault, comma, feed, lit, number}

@@ -43,9 +43,9 @@ pub(crate) fn lines(first: Place<'_>, h: Head) -> Result<(Settings, Place<'_>), 
     let mut hold = [0; MOST_PROCS];
     let mut p = first;
     for i in 0..h.procs as usize {
-        let (line, after) = entries(p, i)?;
-        rounds[i] = line.0;
-        hold[i] = line.1;
+        let ((its_rounds, its_hold), after) = entries(p, i)?;
+        rounds[i] = its_rounds;
+        hold[i] = its_hold;
         p = after;
     }
     let settings = Settings {

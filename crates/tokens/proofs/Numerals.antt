@@ -1,9 +1,8 @@
 -- Numbers: one law for each way out.
-use Rattle.std.proofs.Common.{◌≡◌, ℕ, suc, ◌+◌, ◌-◌, ◌*◌, ◌^◌, ◌≤◌, ◌<◌, Bool, true, false, ◌&&◌, ◌||◌, ◌⊎◌, inl, inr, List, [], ◌∷◌, length, get_or, drop, eqb, ltb, ap, sym, ◌∙◌, arith, eq-eqb, ne_eqb, lt-ltb}
-use lib.ListN.{drop_of_length-le}
+use Rattle.std.proofs.Common.{◌≡◌, ℕ, suc, ◌+◌, ◌-◌, ◌*◌, ◌^◌, ◌≤◌, ◌<◌, Bool, true, false, ◌&&◌, ◌||◌, ◌⊎◌, inl, inr, List, [], ◌∷◌, length, get_or, drop, eqb, ltb, ap, sym, ◌∙◌, arith, eq-eqb, ne_eqb, lt-ltb, drop_of_length-le}
 use Rattle.std.proofs.Math.Bool.{and-false}
 use Rattle.std.proofs.lemmas.List.{nil_from_length}
-use native.Mathlib.Nat.{pow-le-pow_right}
+use Rattle.std.proofs.Math.Nat.{pow-le-pow_right}
 use Rattle.rules.specs.Memory.{pick}
 use Rattle.rules.specs.Bounds.{most_digits}
 use Rattle.rules.specs.Rule.{Got, ok, fault, is_digit, digits, number}

@@ -1,8 +1,6 @@
 -- Names: the word, and the name that it is.
-use Rattle.std.proofs.Common.{◌≡◌, ℕ, suc, zero, ◌+◌, ◌-◌, Bool, true, false, ◌&&◌, cond, List, [], ◌∷◌, ◌++◌, take, drop, eqb, leb, ltb, refl, sym, ◌∙◌, arith, ne_eqb, lt-ltb, append_assoc}
-use mathlib.Core.List.{append-nil}
+use Rattle.std.proofs.Common.{◌≡◌, ℕ, suc, zero, ◌+◌, ◌-◌, Bool, true, false, ◌&&◌, cond, List, [], ◌∷◌, ◌++◌, take, drop, eqb, leb, ltb, refl, sym, ◌∙◌, arith, ne_eqb, lt-ltb, append_assoc, append-nil, leb-true}
 use Rattle.std.proofs.Math.Bool.{and-false}
-use Rattle.std.proofs.lemmas.Bool.{leb-true}
 use Rattle.std.specs.List.{prefix_len}
 use Rattle.rules.proofs.Store.{left_of}
 use Rattle.rules.specs.Memory.{pick}
@@ -17,10 +15,11 @@ run k s = prefix_len is_lower (take k s)
 abbrev fed : List ℕ → List ℕ → ℕ → Got (List ℕ)
 fed w s at = after (lit (feed ∷ []) s at) (λ _. give w)
 
--- no letter comes
+-- where no letter comes
 none_comes : (w s : List ℕ) (at : ℕ) → fed (w ++ []) s (at + 0) ≡ fed w s at
 none_comes w s at = let e : at + 0 ≡ at = omega arith in rw (append-nil w, e)
 
+-- a line feed, or none
 feed_or : (t : Bool) (w s : List ℕ) (at : ℕ) → pick t (ok w s (at + 1)) (fault 1 at) ≡ after (pick t (ok (tt {0}) s (at + 1)) (fault 1 at)) (λ _. give w)
 feed_or true w s at = refl
 feed_or false w s at = refl

@@ -1,24 +1,13 @@
--- One byte of what is left, and what the code answers in the end.
+-- One byte of what is left; and labels, with one law for each way out.
 use Rattle.std.proofs.Common.{◌≡◌, ℕ, suc, ◌+◌, ◌≤◌, ◌<◌, Bool, true, false, cond, eqb, List, [], ◌∷◌, length, get_or, drop, refl, sym, ap, ◌∙◌, arith, drop-cons, add-one}
 use Rattle.std.specs.List.{prefix_len, common_prefix_len, zip}
 use Rattle.rules.specs.Memory.{pick}
-use Rattle.rules.specs.Rule.{Got, ok, fault, lit}
-use Rattle.settings.specs.Numbers.{refusal_number}
-use Rattle.settings.specs.declared.refusal.Refusal.{Refusal}
+use Rattle.rules.specs.Rule.{ok, fault, lit}
 use Rattle.std.proofs.lemmas.List.Sums.{common_prefix_len-le}
 
 -- one byte and what is left after it
 pub drop_next : (s : List ℕ) (i : ℕ) → i < length s → drop i s ≡ get_or s i 0 ∷ drop (i + 1) s
 drop_next s i h = drop-cons s i 0 h ∙ ap (λ (n : ℕ). get_or s i 0 ∷ drop n s) (sym (add-one i))
-
-module _ {A : Type 0} (g : Got A) where
-  -- a refusal at a place
-  pub refused : (r r' : Refusal) (p p' : ℕ) → r' ≡ r → p' ≡ p → g ≡ fault (refusal_number r) p → fault (refusal_number r') p' ≡ g
-  refused r r' p p' h k e = rw (h, k, e)
-
-  -- a value and the place after it
-  pub passed : (v : A) (s s' : List ℕ) (p p' : ℕ) → s' ≡ s → p' ≡ p → g ≡ ok v s p → ok v s' p' ≡ g
-  passed v s s' p p' h k e = rw (h, k, e)
 
 -- ---- a label
 
@@ -28,8 +17,8 @@ alike s bs = common_prefix_len eqb s bs
 
 lit_stops : (bs s : List ℕ) (at : ℕ) → alike s bs < length bs → lit bs s at ≡ fault 1 (at + alike s bs)
 unfolding lit
-lit_stops [] [] at h = absurd (omega (arith, h))
-lit_stops [] (x ∷ s) at h = absurd (omega (arith, h))
+lit_stops [] [] at h = absurd (omega arith)
+lit_stops [] (x ∷ s) at h = absurd (omega arith)
 lit_stops (b ∷ bs) [] at h = ap (fault 1) (omega arith)
 lit_stops (b ∷ bs) (x ∷ s) at h = stop (lit_stops bs s (at + 1)) (eqb x b) h
   where
@@ -45,7 +34,7 @@ lit_goes : (bs s : List ℕ) (at : ℕ) → length bs ≤ alike s bs → lit bs 
 unfolding lit
 lit_goes [] [] at h = ap (ok tt []) (omega arith)
 lit_goes [] (x ∷ s) at h = ap (ok tt (x ∷ s)) (omega arith)
-lit_goes (b ∷ bs) [] at h = absurd (omega (arith, h))
+lit_goes (b ∷ bs) [] at h = absurd (omega arith)
 lit_goes (b ∷ bs) (x ∷ s) at h = go (lit_goes bs s (at + 1)) (eqb x b) h
   where
     n : ℕ
@@ -53,8 +42,11 @@ lit_goes (b ∷ bs) (x ∷ s) at h = go (lit_goes bs s (at + 1)) (eqb x b) h
 
     go : (length bs ≤ n → lit bs s (at + 1) ≡ ok tt (drop n s) (at + 1 + n)) → (t : Bool) → length (b ∷ bs) ≤ cond t (1 + n) 0
         → pick t (lit bs s (at + 1)) (fault 1 at) ≡ ok tt (drop (cond t (1 + n) 0) (x ∷ s)) (at + cond t (1 + n) 0)
-    go k true h = let e : at + 1 + n ≡ at + (1 + n) = omega arith in let f : 1 + n ≡ suc n = omega arith in k (omega arith) ∙ rw (e, f)
-    go k false h = absurd (omega (arith, h))
+    go k true h =
+        let e : at + 1 + n ≡ at + (1 + n) = omega arith in
+        let f : 1 + n ≡ suc n = omega arith in
+        k (omega arith) ∙ rw (e, f)
+    go k false h = absurd (omega arith)
 
 -- the code counts over the pairs
 pub alike_pairs : (s bs : List ℕ) → prefix_len (λ (p : ℕ × ℕ). eqb p.0 p.1) (zip s bs) ≡ alike s bs
@@ -71,7 +63,7 @@ module _ (bs s : List ℕ) (at n : ℕ) (e : n ≡ alike s bs) where
   label_stops h k p z m = rw (z, m, e) (sym (lit_stops bs s at (rw e at h)))
 
   pub label_goes : length bs ≤ n → (l : List ℕ) (p : ℕ) → l ≡ drop n s → p ≡ at + n → ok tt l p ≡ lit bs s at
-  label_goes h l p k m = passed _ tt (drop n s) l (at + n) p k m (rw e (lit_goes bs s at (rw e at h)))
+  label_goes h l p k m = rw (k, m, e) (sym (lit_goes bs s at (rw e at h)))
 
 -- what `label` asks and returns
 pub ruleset labels = (alike_within, label_stops, label_goes)
