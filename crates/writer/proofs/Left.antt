@@ -1,5 +1,5 @@
 -- Putting one text after another: what is left to put.
-use Rattle.std.proofs.Common.{◌≡◌, ℕ, ◌<◌, List, [], ◌++◌, length, ◌∙◌, sym, ap, arith, length-append}
+use Rattle.std.proofs.Common.{◌≡◌, ℕ, ◌<◌, List, [], ◌++◌, length, ◌∙◌, sym, arith, length-append}
 use Rattle.writer.specs.SinkView.{SinkLaws}
 
 -- of t, which is put into s₀, u is left, and goes to s

@@ -3,3 +3,4 @@ mod Turns
 mod Rows
 mod Short
 mod Writes
+pub mod OneOutcome

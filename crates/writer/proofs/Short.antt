@@ -1,22 +1,19 @@
--- The file in its parts, and how long it is at most.
-use Rattle.std.proofs.Common.{◌≡◌, ℕ, zero, suc, ◌+◌, ◌*◌, ◌≤◌, ◌<◌, List, [], ◌∷◌, ◌++◌, length, refl, ap, arith, length-append, append_assoc}
+-- How long a file is at most.
+use Rattle.std.proofs.Common.{◌≡◌, ℕ, zero, suc, ◌+◌, ◌*◌, ◌≤◌, ◌<◌, ◌^◌, List, [], ◌∷◌, length, true, Ok, refl, sym, arith, length-append}
 use Rattle.rules.specs.Bounds.{most_procs, most_rounds, most_hold}
-use Rattle.rules.specs.Settings.{Settings, entry}
+use Rattle.rules.specs.Settings as rules
+use Rattle.rules.specs.Settings.{entry}
 use Rattle.rules.specs.Machines.{numbered}
-use Rattle.rules.specs.File.{decimal, entries_text, rows_text, turns_text, text}
-use Rattle.rules.proofs.Accepted.{Row, Below, Accepted}
+use Rattle.rules.specs.File.{decimal, rows_text, turns_text, text}
+use Rattle.rules.proofs.Accepted.{Row, Below, Accepted, accepted}
 use Rattle.laws.proofs.Decimal.{decimal_length}
-use Rattle.settings.specs.Numbers.{algo_number, algo_name}
+use Rattle.settings.specs.Numbers.{algo_number}
+use Rattle.settings.specs.View.{settings_of, Checked}
 use Rattle.settings.specs.declared.algo.Algo.{Algo}
 use Rattle.settings.specs.declared.algo.Algo.TheVariants.{Ticket, Mcs, Central, Dissem, Tree}
-use Rattle.writer.specs.FileView.{front_text, file_text}
+use Rattle.settings.specs.declared.record.Settings.{Settings}
 
-pub parted : (a : Algo) (s : Settings) (ts : List ℕ) → s.algo ≡ algo_number a → text s ts ≡ file_text a s ts
-unfolding text algo_name
-parted a s ts e = rw (e) (simp append_assoc)
-
-name_short : (a : Algo) → length (algo_name a) ≤ 7
-unfolding algo_name
+name_short : (a : Algo) → length (numbered (algo_number a)).name ≤ 7
 name_short Ticket = omega arith
 name_short Mcs = omega arith
 name_short Central = omega arith
@@ -48,9 +45,10 @@ turns_short p (t ∷ u ∷ ts) h b =
     let m = turns_short p (u ∷ ts) h b.1 in
     simp length-append (omega arith)
 
-pub short : (a : Algo) (s : Settings) (ts : List ℕ) → Accepted s ts → length (file_text a s ts) < 100000
-short a s ts k =
-    let n = name_short a in
+short : (a : Algo) (s : rules.Settings) (ts : List ℕ) → s.algo ≡ algo_number a → Accepted s ts → length (text s ts) < 100000
+unfolding text
+short a s ts e k =
+    let n : length (numbered s.algo).name ≤ 7 = rw e (name_short a) in
     let w = number_short s.procs (omega (arith, k.procs_high)) in
     let x = number_short s.home (omega (arith, k.procs_high, k.home)) in
     let y = number_short s.ticket (omega (arith, k.ticket)) in
@@ -58,3 +56,13 @@ short a s ts k =
     let r = rows_short s.procs s.rounds s.hold k.procs_high k.rounds k.hold s.procs 0 (omega arith) in
     let t = turns_short s.procs ts k.procs_high k.turns_below in
     simp length-append (omega (arith, k.procs_high, k.few))
+
+module _ (s : Settings) (turns : List ℕ) (a : Algo) (k : Checked s turns (Ok a)) where
+  pub allowed : Accepted (settings_of s) turns
+  allowed = (accepted (settings_of s) turns true (sym k.number)).0
+
+  pub few_procs : s.procs ≤ most_procs
+  few_procs = allowed.procs_high
+
+  pub length_fits : length (text (settings_of s) turns) < 2 ^ 64
+  length_fits = let h = short a (settings_of s) turns (k.machine a refl) allowed in omega arith

@@ -1,22 +1,20 @@
 -- Laws for the function `write`: one for each way out.
-use Rattle.std.proofs.Common.{◌≡◌, ℕ, ◌+◌, ◌-◌, ◌≤◌, ◌<◌, Bool, true, false, List, ◌++◌, length, drop, eqb, leb, refl, ap, sym, ◌∙◌, arith, Result, Ok, Err, ne_eqb, le-leb}
+use Rattle.std.proofs.Common.{◌≡◌, ℕ, ◌+◌, zero-add, ◌≤◌, ◌<◌, Bool, true, false, List, length, eqb, leb, ap, sym, ◌∙◌, Ok, Err, ne_eqb, le-leb}
 use Rattle.std.proofs.lemmas.Bool.{lt-leb}
-use native.Mathlib.Nat.{zero-add}
 use Rattle.rules.specs.Memory.{pick}
 use Rattle.rules.specs.Calls.{refusal, writing}
 use Rattle.rules.specs.File.{text}
-use Rattle.rules.proofs.Accepted.{Accepted, accepted, accepts, refusal_room}
+use Rattle.rules.proofs.Accepted.{accepts, refusal_room}
 use Rattle.settings.specs.Numbers.{refusal_number}
-use Rattle.settings.specs.View.{settings_of, number_of, Checked}
+use Rattle.settings.specs.View.{settings_of, Checked}
 use Rattle.settings.specs.declared.algo.Algo.{Algo}
 use Rattle.settings.specs.declared.refusal.Refusal.{Refusal}
 use Rattle.settings.specs.declared.refusal.Refusal.TheVariants.{TooShort}
 use Rattle.settings.specs.declared.record.Settings.{Settings}
 use Rattle.settings.proofs.Outcome.{refused}
-use Rattle.writer.specs.FileView.{file_text}
 use Rattle.writer.specs.SinkView.{over}
 use Rattle.writer.specs.WriteView.{WriteIs}
-use Rattle.writer.proofs.Short.{parted}
+use Rattle.writer.proofs.Short.{allowed}
 
 module _ (s : Settings) (turns out : List ℕ) where
   abbrev whole : List ℕ
@@ -39,26 +37,15 @@ module _ (s : Settings) (turns out : List ℕ) where
   write_refused r k = refuses r (rw (ne_eqb (refusal_number r) 0 (refused r)) at (given (refusal_number r) k.number))
 
   module _ (a : Algo) (k : Checked s turns (Ok a)) where
-    pub write_accepted : Accepted (settings_of s) turns
-    write_accepted = (accepted (settings_of s) turns true (sym k.number)).0
-
-    put_whole : whole ≡ file_text a (settings_of s) turns
-    put_whole = parted a (settings_of s) turns (k.machine a refl)
-
     -- 6
     pub write_short : length out < length whole → WriteIs (settings_of s) turns out out (Err TooShort)
     write_short h = let f : roomy ≡ false = lt-leb _ (length out) h in refuses TooShort (ap (λ b. pick b 0 6) (sym f) ∙ given 0 k.number)
 
     module _ (h : length whole ≤ length out) where
-      pub write_room : length (file_text a (settings_of s) turns) < length out + 1 - 0
-      write_room = let z : length whole < length out + 1 - 0 = omega arith in rw put_whole at z
-
-      done : (t out' : List ℕ) (r : ℕ) → t ≡ whole → out' ≡ over out 0 t → r ≡ 0 + length t → WriteIs (settings_of s) turns out out' (Ok r)
+      pub write_done : (d out' : List ℕ) (r : ℕ) → d ≡ over out 0 whole → out' ≡ d → r ≡ 0 + length whole → WriteIs (settings_of s) turns out out' (Ok r)
       unfolding writing
-      done t out' r e o n =
-          let f : refusal (settings_of s) turns roomy ≡ 0 = accepts (settings_of s) turns roomy write_accepted (le-leb _ (length out) h) in
-          record { is = rw (f, n, o, e, zero-add (length whole)) }
+      write_done d out' r o e n =
+          let f : refusal (settings_of s) turns roomy ≡ 0 = accepts (settings_of s) turns roomy (allowed s turns a k) (le-leb _ (length out) h) in
+          record { is = rw (f, n, e, o, zero-add (length whole)) }
 
-      pub write_done : (out' : List ℕ) (r : ℕ) → out' ≡ over out 0 (file_text a (settings_of s) turns) → r ≡ 0 + length (file_text a (settings_of s) turns)
-          → WriteIs (settings_of s) turns out out' (Ok r)
-      write_done out' r = done _ out' r (sym put_whole)
+pub ruleset ways = (write_refused, write_short)

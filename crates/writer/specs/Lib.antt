@@ -1,4 +1,3 @@
-pub mod FileView
 pub mod Kept
 pub mod SinkView
 pub mod WriteView

@@ -1,29 +1,14 @@
 // The lines of a file, put into a sink.
 ghost use Rattle.std.specs.Prelude.{◌≡◌, ◌≤◌, ◌<◌, [], ◌∷◌, ◌++◌, length};
 ghost use Rattle.rules.specs.Bounds.{most_procs};
-ghost use Rattle.rules.specs.File.{entries_text, rows_text, turns_text};
+ghost use Rattle.rules.specs.File.{entries_text, rows_text, turns_text, text};
 ghost use Rattle.rules.specs.Machines.{bytes};
 ghost use Rattle.rules.specs.Rule.{feed};
-ghost use Rattle.settings.specs.Numbers.{algo_name};
+ghost use Rattle.settings.specs.Numbers.{algo_name, algo_number};
 ghost use Rattle.settings.specs.View.{settings_of};
-ghost use Rattle.writer.specs.FileView.{front_text, file_text};
 
 use crate::sink::Sink;
-use settings::{Algo, MOST_PROCS, Settings};
-
-// The lines before the processors'.
-fn put_front<S: Sink>(sink: &mut S, algo: Algo, s: Settings)
-    requires { length (front_text algo (settings_of s)) < S.room sink.old }
-    ensures { sink.new ≡ S.put sink.old (front_text algo (settings_of s)) }
-{
-    sink.put(b"algo=");
-    sink.put(algo.name());
-    sink.byte(b'\n');
-    sink.field(b"procs=", s.procs as usize);
-    sink.field(b"home=", s.home as usize);
-    sink.field(b"ticket=", s.ticket as usize);
-    sink.field(b"budget=", s.budget as usize);
-}
+use settings::{Algo, Settings};
 
 // Processor i's line.
 fn put_entries<S: Sink>(sink: &mut S, i: usize, rounds: u16, hold: u16)
@@ -37,17 +22,13 @@ fn put_entries<S: Sink>(sink: &mut S, i: usize, rounds: u16, hold: u16)
 }
 
 // The processors' lines.
-fn put_rows<S: Sink>(
-    sink: &mut S,
-    procs: usize,
-    rounds: [u16; MOST_PROCS],
-    hold: [u16; MOST_PROCS],
-)
-    requires procs_le_most_procs { procs ≤ most_procs }
-    requires room { length (rows_text procs 0 rounds hold) < S.room sink.old }
-    ensures { sink.new ≡ S.put sink.old (rows_text procs 0 rounds hold) }
+fn put_rows<S: Sink>(sink: &mut S, s: Settings)
+    requires procs { s.procs ≤ most_procs }
+    requires room { length (rows_text s.procs 0 s.rounds s.hold) < S.room sink.old }
+    ensures { sink.new ≡ S.put sink.old (rows_text s.procs 0 s.rounds s.hold) }
 {
-    for (i, (&rounds, &hold)) in rounds.iter().zip(hold.iter()).enumerate().take(procs) {
+    let entries = s.rounds.iter().zip(s.hold.iter());
+    for (i, (&rounds, &hold)) in entries.enumerate().take(s.procs as usize) {
         put_entries(sink, i, rounds, hold);
     }
 }
@@ -68,13 +49,21 @@ fn put_turns<S: Sink>(sink: &mut S, turns: &[u16])
 }
 
 // The whole file.
+#[tactic(auto, unfolding(rules::specs::File::text, settings::specs::Numbers::algo_name))]
 pub(crate) fn put_file<S: Sink>(sink: &mut S, algo: Algo, s: Settings, schedule: &[u16])
+    requires algo { s.algo ≡ algo_number algo }
     requires procs { s.procs ≤ most_procs }
-    requires room { length (file_text algo (settings_of s) schedule.now) < S.room sink.old }
-    ensures { sink.new ≡ S.put sink.old (file_text algo (settings_of s) schedule.now) }
+    requires room { length (text (settings_of s) schedule.now) < S.room sink.old }
+    ensures { sink.new ≡ S.put sink.old (text (settings_of s) schedule.now) }
 {
-    put_front(sink, algo, s);
-    put_rows(sink, s.procs as usize, s.rounds, s.hold);
+    sink.put(b"algo=");
+    sink.put(algo.name());
+    sink.byte(b'\n');
+    sink.field(b"procs=", s.procs as usize);
+    sink.field(b"home=", s.home as usize);
+    sink.field(b"ticket=", s.ticket as usize);
+    sink.field(b"budget=", s.budget as usize);
+    put_rows(sink, s);
     sink.put(b"turns=");
     put_turns(sink, schedule);
 }

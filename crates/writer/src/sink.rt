@@ -43,14 +43,15 @@ pub(crate) trait Sink {
 }
 
 // Its depth is the number of digits.
+#[tactic(auto, using(laws::proofs::Decimal::decimal_one, laws::proofs::Decimal::decimal_long))]
 fn put_decimal<S: Sink>(sink: &mut S, n: usize)
     requires { length (decimal n) < S.room sink.old }
     ensures { sink.new ≡ S.put sink.old (decimal n) }
 {
     if n < 10 {
-        sink.byte(48 + (n as u8));
+        sink.byte(b'0' + (n as u8));
         return;
     }
     put_decimal(sink, n / 10);
-    sink.byte(48 + ((n % 10) as u8));
+    sink.byte(b'0' + ((n % 10) as u8));
 }

@@ -10,4 +10,4 @@ invariant-loop-i g l =
     let n = length l.yielded in
     (goal.iterator-loop-i g).can_next l.i-iterator
     × (goal.iterator-loop-i g).is_finite l.i-iterator
-    × Left s.room s.put (rows_text l.procs 0 l.fn.rounds l.fn.hold) l.initial.sink (rows_text (l.procs - n) n l.fn.rounds l.fn.hold) l.sink
+    × Left s.room s.put (rows_text l.fn.s.procs 0 l.fn.s.rounds l.fn.s.hold) l.initial.sink (rows_text (l.fn.s.procs - n) n l.fn.s.rounds l.fn.s.hold) l.sink
