@@ -1,5 +1,6 @@
 // The settings file: read, and written.
 #![tactic(auto)]
 
-pub use reader::{ReadAnswer, read};
-pub use writer::{Written, write};
+pub use reader::{Reading, read};
+pub use tokens::Fault;
+pub use writer::write;
