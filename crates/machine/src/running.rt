@@ -1,5 +1,5 @@
 // The run over a schedule, whole: the answer, the events and the table.
-ghost use Rattle.std.specs.Prelude.{◌≡◌, ◌≢◌, eqb};
+ghost use Rattle.std.specs.Prelude.{◌≡◌, eqb};
 ghost use Rattle.rules.specs.Memory.{pick};
 ghost use Rattle.settings.specs.View.{settings_of};
 ghost use Rattle.machine.specs.RunView.{stop_number, Ran, Tallies};
