@@ -18,12 +18,15 @@ use Rattle.settings.specs.declared.refusal.Refusal.TheVariants as refused
 use Rattle.settings.specs.declared.record.Settings.{Settings}
 
 -- the machine of a number
-abbrev pub named_known : (a : Algo) → known (numbered (algo_number a)) ≡ true
+named_known : (a : Algo) → known (numbered (algo_number a)) ≡ true
 named_known algo.Ticket = refl
 named_known algo.Mcs = refl
 named_known algo.Central = refl
 named_known algo.Dissem = refl
 named_known algo.Tree = refl
+
+pub known_one : {n : ℕ} (a : Algo) → n ≡ algo_number a → known (numbered n) ≡ true
+known_one a e = ap (λ n. known (numbered n)) e ∙ named_known a
 
 -- ---- a row: the test of each entry with its place
 
@@ -48,26 +51,23 @@ module _ (s : Settings) (t : List ℕ) where
   unfolding refusal
   by_2 r e = record { number = rw (e.0, e.1) refl; machine = λ a f. absurd (cc) }
 
-  module _ (a : Algo) (n : s.algo ≡ algo_number a) where
-    known_one : known (numbered s.algo) ≡ true
-    known_one = ap (λ n. known (numbered n)) n ∙ named_known a
-
+  module _ (k : known (numbered s.algo) ≡ true) where
     pub by_3 : (r : Bool) → r ≡ in_range (settings_of s) → r ≡ false → Checked s t (Err refused.Outside)
     unfolding refusal
-    by_3 r e f = record { number = rw (known_one, sym e ∙ f) refl; machine = λ a f. absurd (cc) }
+    by_3 r e f = record { number = rw (k, sym e ∙ f) refl; machine = λ a f. absurd (cc) }
 
     module _ (r : Bool) (er : r ≡ in_range (settings_of s)) (fr : r ≡ true) where
       pub by_5 : most_turns < length t → Checked s t (Err refused.TooMany)
       unfolding refusal
-      by_5 h = record { number = rw (known_one, sym er ∙ fr, lt-leb _ _ h) refl; machine = λ a f. absurd (cc) }
+      by_5 h = record { number = rw (k, sym er ∙ fr, lt-leb _ _ h) refl; machine = λ a f. absurd (cc) }
 
       module _ (few : length t ≤ most_turns) (b : Bool) (eb : b ≡ all_below s.procs t) where
         pub by_4 : b ≡ false → Checked s t (Err refused.Stray)
         unfolding refusal
-        by_4 f = record { number = rw (known_one, sym er ∙ fr, le-leb _ _ few, sym eb ∙ f) refl; machine = λ a f. absurd (cc) }
+        by_4 f = record { number = rw (k, sym er ∙ fr, le-leb _ _ few, sym eb ∙ f) refl; machine = λ a f. absurd (cc) }
 
-        pub by_0 : b ≡ true → Checked s t (Ok a)
+        pub by_0 : b ≡ true → (a : Algo) → s.algo ≡ algo_number a → Checked s t (Ok a)
         unfolding refusal
-        by_0 f = record { number = rw (known_one, sym er ∙ fr, le-leb _ _ few, sym eb ∙ f) refl; machine = λ a' f. cc }
+        by_0 f a n = record { number = rw (k, sym er ∙ fr, le-leb _ _ few, sym eb ∙ f) refl; machine = λ a' f. cc }
 
 pub ruleset numbers = (by_2, by_3, by_5, by_4, by_0, not-true, not-false, lt_trans, lit<)
