@@ -7,14 +7,16 @@ use lib.Dec.{lit<}
 use Rattle.std.specs.List.{list_all, enumerate_from}
 use Rattle.rules.specs.Memory.{pick}
 use Rattle.rules.specs.Bounds.{most_turns}
+use Rattle.rules.specs.Settings as rules
 use Rattle.rules.specs.Machines.{numbered, known}
 use Rattle.rules.specs.Calls.{all, in_row, in_range, all_below, refusal}
-use Rattle.settings.specs.Numbers.{algo_number, Numbered}
-use Rattle.settings.specs.View.{settings_of, Checked}
+use Rattle.settings.specs.Numbers.{algo_number, refusal_number}
+use Rattle.settings.specs.View.{settings_of}
 use Rattle.settings.specs.declared.algo.Algo.{Algo}
 use Rattle.settings.specs.declared.algo.Algo.TheVariants as algo
 use Rattle.settings.specs.declared.refusal.Refusal.{Refusal}
-use Rattle.settings.specs.declared.refusal.Refusal.TheVariants as refused
+use Rattle.settings.specs.Check.{Checked}
+use Rattle.settings.specs.declared.trial.Trial.{Trial}
 use Rattle.settings.specs.declared.record.Settings.{Settings}
 
 -- the machine of a number
@@ -46,28 +48,36 @@ tests (b ∷ l) = ap (λ r. b && r) (tests l)
 
 -- ---- the number of refusal
 
-module _ (s : Settings) (t : List ℕ) where
-  pub by_2 : (r : Refusal) → Numbered s.algo (Err r) → Checked s t (Err r)
+module _ (s : rules.Settings) (t : List ℕ) where
+  pub by_2 : known (numbered s.algo) ≡ false → 2 ≡ refusal s t true
   unfolding refusal
-  by_2 r e = record { number = rw (e.0, e.1) refl; machine = λ a f. absurd (cc) }
+  by_2 e = rw e refl
 
   module _ (k : known (numbered s.algo) ≡ true) where
-    pub by_3 : (r : Bool) → r ≡ in_range (settings_of s) → r ≡ false → Checked s t (Err refused.Outside)
+    pub by_3 : (r : Bool) → r ≡ in_range s → r ≡ false → 3 ≡ refusal s t true
     unfolding refusal
-    by_3 r e f = record { number = rw (k, sym e ∙ f) refl; machine = λ a f. absurd (cc) }
+    by_3 r e f = rw (k, sym e ∙ f) refl
 
-    module _ (r : Bool) (er : r ≡ in_range (settings_of s)) (fr : r ≡ true) where
-      pub by_5 : most_turns < length t → Checked s t (Err refused.TooMany)
+    module _ (r : Bool) (er : r ≡ in_range s) (fr : r ≡ true) where
+      pub by_5 : most_turns < length t → 5 ≡ refusal s t true
       unfolding refusal
-      by_5 h = record { number = rw (k, sym er ∙ fr, lt-leb _ _ h) refl; machine = λ a f. absurd (cc) }
+      by_5 h = rw (k, sym er ∙ fr, lt-leb _ _ h) refl
 
       module _ (few : length t ≤ most_turns) (b : Bool) (eb : b ≡ all_below s.procs t) where
-        pub by_4 : b ≡ false → Checked s t (Err refused.Stray)
+        pub by_4 : b ≡ false → 4 ≡ refusal s t true
         unfolding refusal
-        by_4 f = record { number = rw (k, sym er ∙ fr, le-leb _ _ few, sym eb ∙ f) refl; machine = λ a f. absurd (cc) }
+        by_4 f = rw (k, sym er ∙ fr, le-leb _ _ few, sym eb ∙ f) refl
 
-        pub by_0 : b ≡ true → (a : Algo) → s.algo ≡ algo_number a → Checked s t (Ok a)
+        pub by_0 : b ≡ true → refusal s t true ≡ 0
         unfolding refusal
-        by_0 f a n = record { number = rw (k, sym er ∙ fr, le-leb _ _ few, sym eb ∙ f) refl; machine = λ a' f. cc }
+        by_0 f = rw (k, sym er ∙ fr, le-leb _ _ few, sym eb ∙ f) refl
 
 pub ruleset numbers = (by_2, by_3, by_5, by_4, by_0, not-true, not-false, lt_trans, lit<)
+
+-- ---- what the check gives
+
+pub refuses : {s : Settings} {t : List ℕ} (r : Refusal) → refusal_number r ≡ refusal (settings_of s) t true → Checked s t (Err r)
+refuses r e = record { number = e; settings = λ a f. absurd (cc); schedule = λ a f. absurd (cc) }
+
+pub passes : {s : Settings} {t : List ℕ} (a : Trial) → a.settings ≡ s → a.schedule.now ≡ t → Checked s t (Ok a)
+passes a e f = record { number = sym (rw (e, f) at a.in_order); settings = λ b g. cc; schedule = λ b g. cc }

@@ -1,7 +1,8 @@
 -- The check has one outcome.
 use Rattle.std.proofs.Common.{◌≡◌, ℕ, zero, suc, List, Result, Ok, Err, refl, ap, sym, ◌∙◌, arith}
 use Rattle.settings.specs.Numbers.{algo_number, refusal_number}
-use Rattle.settings.specs.View.{Checked}
+use Rattle.settings.specs.Check.{Checked}
+use Rattle.settings.specs.declared.trial.Trial.{Trial}
 use Rattle.settings.specs.declared.algo.Algo.{Algo}
 use Rattle.settings.specs.declared.algo.Algo.TheVariants.{Ticket, Mcs, Central, Dissem, Tree}
 use Rattle.settings.specs.declared.refusal.Refusal.{Refusal}
@@ -57,8 +58,17 @@ refused Stray e = omega arith
 refused TooMany e = omega arith
 refused TooShort e = omega arith
 
-pub one_outcome : (s : Settings) (t : List ℕ) (r r' : Result Algo Refusal) → Checked s t r → Checked s t r' → r ≡ r'
-one_outcome s t (Ok a) (Ok b) c c' = ap Ok (same_algo a b (sym (c.machine a (λ i. Ok a)) ∙ c'.machine b (λ i. Ok b)))
-one_outcome s t (Ok a) (Err q) c c' = absurd (refused q (c'.number ∙ sym c.number))
-one_outcome s t (Err p) (Ok b) c c' = absurd (refused p (c.number ∙ sym c'.number))
-one_outcome s t (Err p) (Err q) c c' = ap Err (same_refusal p q (c.number ∙ sym c'.number))
+-- the same refusal, or the same machine, settings and schedule
+abbrev pub Same : Result Trial Refusal → Result Trial Refusal → Type 0
+Same (Ok a) (Ok b) = (a.algo ≡ b.algo) × (a.settings ≡ b.settings) × (a.schedule.now ≡ b.schedule.now)
+Same (Ok a) (Err q) = ⊥
+Same (Err p) (Ok b) = ⊥
+Same (Err p) (Err q) = p ≡ q
+
+pub one_outcome : (s : Settings) (t : List ℕ) (r r' : Result Trial Refusal) → Checked s t r → Checked s t r' → Same r r'
+one_outcome s t (Ok a) (Ok b) c c' =
+    let e = c.settings a (λ i. Ok a) ∙ sym (c'.settings b (λ i. Ok b)) in
+    (same_algo _ _ (sym a.named ∙ ap (λ (s : Settings). s.algo) e ∙ b.named), e, c.schedule a (λ i. Ok a) ∙ sym (c'.schedule b (λ i. Ok b)))
+one_outcome s t (Ok a) (Err q) c c' = refused q (c'.number ∙ sym c.number)
+one_outcome s t (Err p) (Ok b) c c' = refused p (c.number ∙ sym c'.number)
+one_outcome s t (Err p) (Err q) c c' = same_refusal p q (c.number ∙ sym c'.number)

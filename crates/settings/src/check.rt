@@ -1,7 +1,8 @@
 // The one check of settings and schedule that write and run share.
 ghost use Rattle.std.specs.Prelude.{◌≡◌};
 ghost use Rattle.rules.specs.Calls.{in_row, in_range, all_below};
-ghost use Rattle.settings.specs.View.{settings_of, Checked};
+ghost use Rattle.settings.specs.View.{settings_of};
+ghost use Rattle.settings.specs.Check.{Checked};
 
 use crate::algo::Algo;
 use crate::bounds::{
@@ -9,6 +10,7 @@ use crate::bounds::{
 };
 use crate::record::Settings;
 use crate::refusal::Refusal;
+use crate::trial::Trial;
 
 // Whether each entry of a row is at most the bound below procs, and zero from procs on.
 fn in_row(row: [u16; MOST_PROCS], procs: u16, most: u16) -> bool
@@ -44,9 +46,9 @@ fn all_below(procs: u16, schedule: &[u16]) -> bool
     schedule.iter().all(|&w| w < procs)
 }
 
-// The machine that the settings name; or the refusal, in the order 2, 3, 5, 4. Whether there is room is the caller's to judge.
+// The settings and the schedule, in order; or the refusal, in the order 2, 3, 5, 4. Whether there is room is the caller's to judge.
 #[tactic(auto, using(crate::proofs::Checks::numbers))]
-pub fn checked(s: Settings, schedule: &[u16]) -> Result<Algo, Refusal>
+pub fn checked(s: Settings, schedule: &[u16]) -> Result<Trial<'_>, Refusal>
     ensures { Checked s schedule.now result }
 {
     let algo = Algo::try_from(s.algo)?;
@@ -59,5 +61,9 @@ pub fn checked(s: Settings, schedule: &[u16]) -> Result<Algo, Refusal>
     if !all_below(s.procs, schedule) {
         return Err(Refusal::Stray);
     }
-    Ok(algo)
+    Ok(Trial {
+        algo,
+        settings: s,
+        schedule,
+    })
 }

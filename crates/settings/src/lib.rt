@@ -6,6 +6,7 @@ mod bounds;
 mod check;
 mod record;
 mod refusal;
+mod trial;
 
 pub use algo::Algo;
 pub use bounds::{
@@ -14,3 +15,4 @@ pub use bounds::{
 pub use check::checked;
 pub use record::Settings;
 pub use refusal::Refusal;
+pub use trial::Trial;
