@@ -1,3 +1,4 @@
 mod Checks
 mod Naming
 pub mod Outcome
+pub mod Trials

@@ -1,17 +1,18 @@
 -- How long a file is at most.
-use Rattle.std.proofs.Common.{◌≡◌, ℕ, zero, suc, ◌+◌, ◌*◌, ◌≤◌, ◌<◌, ◌^◌, List, [], ◌∷◌, length, true, Ok, refl, sym, arith, length-append}
+use Rattle.std.proofs.Common.{◌≡◌, ℕ, zero, suc, ◌+◌, ◌*◌, ◌≤◌, ◌<◌, ◌^◌, List, [], ◌∷◌, length, arith, length-append}
 use Rattle.rules.specs.Bounds.{most_procs, most_rounds, most_hold}
 use Rattle.rules.specs.Settings as rules
 use Rattle.rules.specs.Settings.{entry}
 use Rattle.rules.specs.Machines.{numbered}
 use Rattle.rules.specs.File.{decimal, rows_text, turns_text, text}
-use Rattle.rules.proofs.Accepted.{Row, Below, Accepted, accepted}
+use Rattle.rules.proofs.Accepted.{Row, Below, Accepted}
 use Rattle.laws.proofs.Decimal.{decimal_length}
 use Rattle.settings.specs.Numbers.{algo_number}
-use Rattle.settings.specs.View.{settings_of, Checked}
+use Rattle.settings.specs.View.{settings_of}
 use Rattle.settings.specs.declared.algo.Algo.{Algo}
 use Rattle.settings.specs.declared.algo.Algo.TheVariants.{Ticket, Mcs, Central, Dissem, Tree}
-use Rattle.settings.specs.declared.record.Settings.{Settings}
+use Rattle.settings.specs.declared.trial.Trial.{Trial}
+use Rattle.settings.proofs.Trials.{trial_accepted}
 
 name_short : (a : Algo) → length (numbered (algo_number a)).name ≤ 7
 name_short Ticket = omega arith
@@ -57,12 +58,8 @@ short a s ts e k =
     let t = turns_short s.procs ts k.procs_high k.turns_below in
     simp length-append (omega (arith, k.procs_high, k.few))
 
-module _ (s : Settings) (turns : List ℕ) (a : Algo) (k : Checked s turns (Ok a)) where
-  pub allowed : Accepted (settings_of s) turns
-  allowed = (accepted (settings_of s) turns true (sym k.number)).0
+pub few_procs : (t : Trial) → t.settings.procs ≤ most_procs
+few_procs t = (trial_accepted t).procs_high
 
-  pub few_procs : s.procs ≤ most_procs
-  few_procs = allowed.procs_high
-
-  pub length_fits : length (text (settings_of s) turns) < 2 ^ 64
-  length_fits = let h = short a (settings_of s) turns (k.machine a refl) allowed in omega arith
+pub length_fits : (t : Trial) → length (text (settings_of t.settings) t.schedule.now) < 2 ^ 64
+length_fits t = let h = short t.algo (settings_of t.settings) t.schedule.now t.named (trial_accepted t) in omega arith

@@ -1,20 +1,19 @@
 // The settings file, written.
 ghost use Rattle.std.specs.Prelude.{◌≡◌, length};
 ghost use Rattle.rules.specs.File.{text};
-ghost use Rattle.settings.specs.View.{settings_of, Checked};
+ghost use Rattle.settings.specs.View.{settings_of};
 ghost use Rattle.writer.specs.WriteView.{WriteIs};
 
 use crate::count::Count;
 use crate::file::put_file;
 use crate::pen::Pen;
-use settings::{Algo, Refusal, Settings, checked};
+use settings::{Refusal, Settings, Trial, checked};
 
-fn file_length(algo: Algo, s: Settings, schedule: &[u16]) -> usize
-    requires { Checked s schedule.now (Ok algo) }
-    ensures { result ≡ length (text (settings_of s) schedule.now) }
+fn file_length(trial: Trial<'_>) -> usize
+    ensures { result ≡ length (text (settings_of trial.entry.settings) trial.entry.schedule.now) }
 {
     let mut count = Count { bytes: 0 };
-    put_file(&mut count, algo, s, schedule);
+    put_file(&mut count, trial.algo, trial.settings, trial.schedule);
     count.bytes
 }
 
@@ -23,12 +22,11 @@ fn file_length(algo: Algo, s: Settings, schedule: &[u16]) -> usize
 pub fn write(s: Settings, schedule: &[u16], out: &mut [u8]) -> Result<usize, Refusal>
     ensures { WriteIs (settings_of s) schedule.now out.old out.new result }
 {
-    let algo = checked(s, schedule)?;
-    let length = file_length(algo, s, schedule);
-    if out.len() < length {
+    let trial = checked(s, schedule)?;
+    if out.len() < file_length(trial) {
         return Err(Refusal::TooShort);
     }
     let mut pen = Pen { out, at: 0 };
-    put_file(&mut pen, algo, s, schedule);
+    put_file(&mut pen, trial.algo, trial.settings, trial.schedule);
     Ok(pen.at)
 }
