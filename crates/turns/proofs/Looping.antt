@@ -11,17 +11,19 @@ use Rattle.rules.specs.Memory.{pick}
 use Rattle.rules.specs.Bounds.{most_procs, most_turns, most_hold, most_budget}
 use Rattle.rules.specs.Settings.{Settings, entry}
 use Rattle.rules.specs.Step.{code, Machine}
-use Rattle.rules.specs.Course.{Course, turn}
+use Rattle.rules.specs.Course.{Course, turn, outset}
 use Rattle.rules.specs.Tally.{Tally, blank}
 use Rattle.rules.specs.Play.{Run, first, next, taking, ended, whole}
 use Rattle.rules.specs.Calls.{over}
 use Rattle.rules.proofs.Accepted.{Below}
 use Rattle.rules.proofs.Views.{column, column_blank, over_next}
 use Rattle.rules.proofs.Counts.{Table≤}
-use Rattle.rules.proofs.Turned.{Told, told, OneKind, told_one, Turned, same_tally, far≤, codes≤, done_told}
+use Rattle.rules.proofs.Turned.{Told, told, Turned, same_tally, far≤, codes≤, done_told}
 use Rattle.rules.proofs.Going.{Going, As, going_first, going_all, going_past, going_next, as_next}
 use Rattle.turns.specs.declared.played.Played.{Played}
-use Rattle.turns.specs.View.{Starts, Turns}
+use Rattle.turns.specs.declared.played.Stop.{Stop}
+use Rattle.turns.specs.declared.played.Stop.TheVariants.{UsedUp, Budget}
+use Rattle.turns.specs.Stopping.{stop_number}
 use Rattle.turns.specs.CountView.{numbers, done_of, tally_of, Room, Counted, Noted}
 use Rattle.turns.specs.PlayView.{Ready, PlayedIs}
 
@@ -54,15 +56,15 @@ turn_below p (i ∷ t) zero b h = b.0
 turn_below p (i ∷ t) (suc k) b h = turn_below p t k b.1 (omega arith)
 
 -- before the first turn
-pub held_first : {m : Machine} {s : Settings} {turns events₀ : List ℕ} {P : Settings → Type 0} {x : m.State} {c : Course} → Ready s turns (length events₀) → Starts m P x c
-    → P s → Held m s turns events₀ events₀ x c no_sums 0 0 0
-held_first {m} {s} {turns} {events₀} {P} {x} {c} ready st p = record {
+pub held_first : {m : Machine} {s : Settings} {turns events₀ : List ℕ} {x : m.State} {c : Course} → Ready s turns (length events₀) → x ≡ m.start s → c ≡ outset
+    → Held m s turns events₀ events₀ x c no_sums 0 0 0
+held_first {m} {s} {turns} {events₀} {x} {c} ready a b = record {
   r = first m s;
   es = [];
   ready = ready;
   going = going_first m s turns;
-  has = record { memory = sym (st.memory s p); course = sym st.outset; tally = blank_tally; events = refl };
-  done = rw st.outset (sym (column_blank numbers 0 (most_procs * numbers)));
+  has = record { memory = sym a; course = sym b; tally = blank_tally; events = refl };
+  done = rw b (sym (column_blank numbers 0 (most_procs * numbers)));
   count = refl;
   row = refl;
   long = refl;
@@ -70,7 +72,7 @@ held_first {m} {s} {turns} {events₀} {P} {x} {c} ready st p = record {
 }
 
 -- the whole run is q, and the program has its numbers
-finished : (m : Machine) (s : Settings) (turns events₀ : List ℕ) (q : Run m.State) (events : List ℕ) (p : Played) → q ≡ whole m s turns → p.stop ≡ pick q.stopped 1 0
+finished : (m : Machine) (s : Settings) (turns events₀ : List ℕ) (q : Run m.State) (events : List ℕ) (p : Played) → q ≡ whole m s turns → stop_number p.stop ≡ pick q.stopped 1 0
     → p.taken ≡ q.taken → p.events ≡ length q.events → events ≡ over (map code q.events) events₀ → done_of p.sums ≡ q.course.done
     → tally_of p.sums p.total ≡ q.tally → PlayedIs m s turns events₀ events p
 finished m s turns events₀ q events p e a b c f g h =
@@ -101,8 +103,8 @@ module _ {m : Machine} {s : Settings} {turns events₀ events : List ℕ} {x : m
   events_are = rw (← h.has.events) (length-map h.r.events code)
 
   -- q is the run so far, or the same, ended
-  whole_is : (q : Run m.State) (stop : ℕ) → q ≡ whole m s turns → q.events ≡ h.r.events → q.taken ≡ h.r.taken → q.tally ≡ h.r.tally
-      → q.course ≡ h.r.course → stop ≡ pick q.stopped 1 0
+  whole_is : (q : Run m.State) (stop : Stop) → q ≡ whole m s turns → q.events ≡ h.r.events → q.taken ≡ h.r.taken → q.tally ≡ h.r.tally
+      → q.course ≡ h.r.course → stop_number stop ≡ pick q.stopped 1 0
       → PlayedIs m s turns events₀ events (record { stop = stop; taken = k; events = n; total = total; sums = a })
   whole_is q stop e ev tk ta co f =
       finished m s turns events₀ q events _ e f (sym (tk ∙ h.going.taken)) (h.count ∙ events_are ∙ ap length (sym ev))
@@ -110,15 +112,15 @@ module _ {m : Machine} {s : Settings} {turns events₀ events : List ℕ} {x : m
       (sym h.done ∙ ap (λ (z : Course). z.done) (sym (co ∙ h.has.course)))
       (sym (ta ∙ h.has.tally))
 
-  pub held_all : k ≡ length turns → PlayedIs m s turns events₀ events (record { stop = 0; taken = k; events = n; total = total; sums = a })
-  held_all e = whole_is h.r 0 (going_all m s turns k h.r h.going e) refl refl refl refl (rw h.going.on refl)
+  pub held_all : k ≡ length turns → PlayedIs m s turns events₀ events (record { stop = UsedUp; taken = k; events = n; total = total; sums = a })
+  held_all e = whole_is h.r UsedUp (going_all m s turns k h.r h.going e) refl refl refl refl (rw h.going.on refl)
 
   -- the turn is made: `tell` may be called, and the run ends before it or goes on after it
-  module _ {P : Settings → Type 0} {x' : m.State} {c' : Course} {d : Told} (t : Turns m P who (entry s.rounds who) (entry s.hold who) x c x' c' d) where
+  module _ {x' : m.State} {c' : Course} {d : Told} (t : Turned m s x c who x' c' d) where
     pub record Made (far : ℕ) : Type 0 where
       pub fits : Fits w32 (total + far)
-      pub tell : (who < most_procs) × Room who a × OneKind d × (n + 2 ≤ length events)
-      pub past : s.budget < total + far → PlayedIs m s turns events₀ events (record { stop = 1; taken = k; events = n; total = total; sums = a })
+      pub tell : (who < most_procs) × Room who a × (n + 2 ≤ length events)
+      pub past : s.budget < total + far → PlayedIs m s turns events₀ events (record { stop = Budget; taken = k; events = n; total = total; sums = a })
       pub on : total + far ≤ s.budget → {b events' : List ℕ} {n' : ℕ} → Counted who d a b × Noted events n d.codes events' n' → length b ≡ length a
           → Held m s turns events₀ events' x' c' b (total + far) n' (k + 1)
 
@@ -175,10 +177,7 @@ module _ {m : Machine} {s : Settings} {turns events₀ events : List ℕ} {x : m
 
     -- ---- the turn is made
 
-    module _ {P : Settings → Type 0} {x' : m.State} {c' : Course} {d : Told} (t : Turns m P who (entry s.rounds who) (entry s.hold who) x c x' c' d) (p : P s) where
-      turned : Turned m s x c who x' c' d
-      turned = t.turned s p refl refl
-
+    module _ {x' : m.State} {c' : Course} {d : Told} (turned : Turned m s x c who x' c' d) where
       tells : d ≡ told who (h.r.course.at who) (next m s h.r who)
       tells = rw (h.has.memory, h.has.course) turned.tells
 
@@ -186,9 +185,9 @@ module _ {m : Machine} {s : Settings} {turns events₀ events : List ℕ} {x : m
       total_is = ap (λ (z : Tally). z.total) (sym h.has.tally)
 
       module _ {far : ℕ} (f : far ≡ d.far) where
-        past : s.budget < total + far → PlayedIs m s turns events₀ events (record { stop = 1; taken = k; events = n; total = total; sums = a })
+        past : s.budget < total + far → PlayedIs m s turns events₀ events (record { stop = Budget; taken = k; events = n; total = total; sums = a })
         past b =
-            whole_is (ended h.r) 1 (going_past m s turns k h.r h.going who d held_known.more refl tells (omega (arith, total_is))) refl refl refl refl refl
+            whole_is (ended h.r) Budget (going_past m s turns k h.r h.going who d held_known.more refl tells (omega (arith, total_is))) refl refl refl refl refl
 
         on : total + far ≤ s.budget → {b events' : List ℕ} {n' : ℕ} → Counted who d a b × Noted events n d.codes events' n' → length b ≡ length a
             → Held m s turns events₀ events' x' c' b (total + far) n' (k + 1)
@@ -210,10 +209,10 @@ module _ {m : Machine} {s : Settings} {turns events₀ events : List ℕ} {x : m
         far≤1 : far ≤ 1
         far≤1 = rw (f, tells) (far≤ who (h.r.course.at who) (next m s h.r who))
 
-        pub held_made : Made t far
+        pub held_made : Made turned far
         held_made = record {
           fits = omega (arith, held_known.paid, far≤1);
-          tell = (held_known.low, room_of, rw tells (told_one who (h.r.course.at who) (next m s h.r who)), held_known.room);
+          tell = (held_known.low, room_of, held_known.room);
           past = past;
           on = on;
         }

@@ -7,6 +7,7 @@ use Rattle.rules.specs.Play.{whole}
 use Rattle.rules.specs.Calls.{over}
 use Rattle.rules.proofs.Accepted.{Accepted}
 use Rattle.turns.specs.declared.played.Played.{Played}
+use Rattle.turns.specs.Stopping.{stop_number}
 use Rattle.turns.specs.CountView.{done_of, tally_of}
 
 -- the settings and the schedule are in order, and there is room for the events
@@ -16,7 +17,7 @@ pub record Ready (s : Settings) (turns : List ℕ) (room : ℕ) : Type 0 where
 
 -- p is the whole run's, and so is the row, whatever lay before past its events
 pub record PlayedIs (m : Machine) (s : Settings) (turns before after : List ℕ) (p : Played) : Type 0 where
-  pub stop : p.stop ≡ pick (whole m s turns).stopped 1 0
+  pub stop : stop_number p.stop ≡ pick (whole m s turns).stopped 1 0
   pub taken : p.taken ≡ (whole m s turns).taken
   pub events : p.events ≡ length (whole m s turns).events
   pub row : after ≡ over (map code (whole m s turns).events) before
