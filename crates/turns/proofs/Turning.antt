@@ -25,15 +25,21 @@ module _ {m : Machine} {s : Settings} {x : m.State} {c : Course} {k w : ℕ} (st
 
 -- ---- a turn, by what is due
 
-module _ {m : Machine} {s : Settings} {x : m.State} {c : Course} {w : ℕ} {what : Due} (e : Dues c w (entry s.rounds w) what)
-    {x' : m.State} {c' : Course} {d : Told} where
-  pub turned_hold : what ≡ due.Hold → x' ≡ x → c' ≡ held c w → d ≡ untold false → Turned m s x c w x' c' d
-  turned_hold f a b g = by_hold m s x c w x' c' d (rw f at e) a b g
+-- a turn of processor w; what steps keep holds after it
+pub record Turns (m : Machine) (sound : Settings → m.State → (ℕ → ℕ) → Type 0) (s : Settings) (x : m.State) (c : Course) (w : ℕ) (x' : m.State) (c' : Course) (d : Told)
+    : Type 0 where
+  pub turned : Turned m s x c w x' c' d
+  pub keeps : sound s x' c'.at
 
-  pub turned_idle : what ≡ due.Idle → x' ≡ x → c' ≡ c → d ≡ untold true → Turned m s x c w x' c' d
-  turned_idle f a b g = let i = rw f at e in by_idle m s x c w x' c' d i.0 i.1 i.2 a b g
+module _ {m : Machine} {sound : Settings → m.State → (ℕ → ℕ) → Type 0} {s : Settings} {x : m.State} {c : Course} {w : ℕ} {what : Due}
+    (e : Dues c w (entry s.rounds w) what) {x' : m.State} {c' : Course} {d : Told} where
+  pub turns_hold : what ≡ due.Hold → x' ≡ x → c' ≡ held c w → d ≡ untold false → sound s x c.at → Turns m sound s x c w x' c' d
+  turns_hold f a b g h = record { turned = by_hold m s x c w x' c' d (rw f at e) a b g; keeps = rw (a, b) h }
 
-  pub turned_step : (k : ℕ) → what ≡ due.Step k → Stepped m s x c k w x' c' d → Turned m s x c w x' c' d
-  turned_step k f t =
+  pub turns_idle : what ≡ due.Idle → x' ≡ x → c' ≡ c → d ≡ untold true → sound s x c.at → Turns m sound s x c w x' c' d
+  turns_idle f a b g h = let i = rw f at e in record { turned = by_idle m s x c w x' c' d i.0 i.1 i.2 a b g; keeps = rw (a, b) h }
+
+  pub turns_step : (k : ℕ) → what ≡ due.Step k → Stepped m s x c k w x' c' d → sound s x' c'.at → Turns m sound s x c w x' c' d
+  turns_step k f t h =
       let i : (c.left w ≡ 0) × (c.at w ≡ k) × ((eqb k 1 && eqb (c.done w) (entry s.rounds w)) ≡ false) = rw f at e in
-      by_step m s x c w x' c' d (m.step s x k w) i.0 (rw i.1 i.2) (rw i.1 refl) t.memory t.course (rw i.1 t.tells)
+      record { turned = by_step m s x c w x' c' d (m.step s x k w) i.0 (rw i.1 i.2) (rw i.1 refl) t.memory t.course (rw i.1 t.tells); keeps = h }
