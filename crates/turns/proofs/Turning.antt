@@ -25,21 +25,26 @@ module _ {m : Machine} {s : Settings} {x : m.State} {c : Course} {k w : ℕ} (st
 
 -- ---- a turn, by what is due
 
--- a turn of processor w; what steps keep holds after it
-pub record Turns (m : Machine) (sound : Settings → m.State → (ℕ → ℕ) → Type 0) (s : Settings) (x : m.State) (c : Course) (w : ℕ) (x' : m.State) (c' : Course) (d : Told)
+-- a turn of processor w, by code whose memory stands for `of memory`; what steps keep holds after it
+pub record Turns {M : Type 0} (m : Machine) (of : M → m.State) (sound : Settings → M → (ℕ → ℕ) → Type 0) (s : Settings) (x : M) (c : Course) (w : ℕ) (x' : M) (c' : Course) (d : Told)
     : Type 0 where
-  pub turned : Turned m s x c w x' c' d
+  pub turned : Turned m s (of x) c w (of x') c' d
   pub keeps : sound s x' c'.at
 
-module _ {m : Machine} {sound : Settings → m.State → (ℕ → ℕ) → Type 0} {s : Settings} {x : m.State} {c : Course} {w : ℕ} {what : Due}
-    (e : Dues c w (entry s.rounds w) what) {x' : m.State} {c' : Course} {d : Told} where
-  pub turns_hold : what ≡ due.Hold → x' ≡ x → c' ≡ held c w → d ≡ untold false → sound s x c.at → Turns m sound s x c w x' c' d
-  turns_hold f a b g h = record { turned = by_hold m s x c w x' c' d (rw f at e) a b g; keeps = rw (a, b) h }
+module _ {M : Type 0} {m : Machine} {of : M → m.State} {sound : Settings → M → (ℕ → ℕ) → Type 0} {s : Settings} {x : M} {c : Course} {w : ℕ} {what : Due}
+    (e : Dues c w (entry s.rounds w) what) {x' : M} {c' : Course} {d : Told} where
+  pub turns_hold : what ≡ due.Hold → x' ≡ x → c' ≡ held c w → d ≡ untold false → sound s x c.at → Turns m of sound s x c w x' c' d
+  turns_hold f a b g h = record { turned = by_hold m s (of x) c w (of x') c' d (rw f at e) (ap of a) b g; keeps = rw (a, b) h }
 
-  pub turns_idle : what ≡ due.Idle → x' ≡ x → c' ≡ c → d ≡ untold true → sound s x c.at → Turns m sound s x c w x' c' d
-  turns_idle f a b g h = let i = rw f at e in record { turned = by_idle m s x c w x' c' d i.0 i.1 i.2 a b g; keeps = rw (a, b) h }
+  pub turns_idle : what ≡ due.Idle → x' ≡ x → c' ≡ c → d ≡ untold true → sound s x c.at → Turns m of sound s x c w x' c' d
+  turns_idle f a b g h =
+      let i = rw f at e in
+      record { turned = by_idle m s (of x) c w (of x') c' d i.0 i.1 i.2 (ap of a) b g; keeps = rw (a, b) h }
 
-  pub turns_step : (k : ℕ) → what ≡ due.Step k → Stepped m s x c k w x' c' d → sound s x' c'.at → Turns m sound s x c w x' c' d
+  pub turns_step : (k : ℕ) → what ≡ due.Step k → Stepped m s (of x) c k w (of x') c' d → sound s x' c'.at → Turns m of sound s x c w x' c' d
   turns_step k f t h =
       let i : (c.left w ≡ 0) × (c.at w ≡ k) × ((eqb k 1 && eqb (c.done w) (entry s.rounds w)) ≡ false) = rw f at e in
-      record { turned = by_step m s x c w x' c' d (m.step s x k w) i.0 (rw i.1 i.2) (rw i.1 refl) t.memory t.course (rw i.1 t.tells); keeps = h }
+      record {
+        turned = by_step m s (of x) c w (of x') c' d (m.step s (of x) k w) i.0 (rw i.1 i.2) (rw i.1 refl) t.memory t.course (rw i.1 t.tells);
+        keeps = h;
+      }

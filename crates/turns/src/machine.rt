@@ -25,19 +25,19 @@ pub trait Machine: Copy {
     ghost memory: { Self → rules.State };
 
     // What the steps keep, of the memory and of the step that each processor is at.
-    ghost sound: { Settings → rules.State → (ℕ → ℕ) → Type 0 };
+    ghost sound: { Settings → Self → (ℕ → ℕ) → Type 0 };
 
     fn start(s: &Settings) -> Self
         requires { Fits (settings_of s.now) }
         ensures memory { memory result ≡ rules.start (settings_of s.now) }
-        ensures sound { sound (settings_of s.now) (memory result) outset.at };
+        ensures sound { sound (settings_of s.now) result outset.at };
 
     // Makes this step.
     fn step(self, step: Step, s: &Settings) -> State<Self>
         requires asked { Asked (settings_of s.now) step.w step.hold }
-        requires sound { sound (settings_of s.now) (memory self) (course_of step.course).at }
+        requires sound { sound (settings_of s.now) self (course_of step.course).at }
         ensures stepped { Stepped rules (settings_of s.now) (memory self) (course_of step.course) step.at step.w (memory result.memory) (course_of result.course) (told_of step.w result.made) }
-        ensures sound { sound (settings_of s.now) (memory result.memory) (course_of result.course).at };
+        ensures sound { sound (settings_of s.now) result.memory (course_of result.course).at };
 }
 
 // A machine's memory, the course of each processor, and what was told of the last turn.
@@ -53,7 +53,7 @@ impl<M: Machine> State<M> {
         requires { Fits (settings_of s.now) }
         ensures memory { M.memory result.memory ≡ M.rules.start (settings_of s.now) }
         ensures course { course_of result.course ≡ outset }
-        ensures sound { M.sound (settings_of s.now) (M.memory result.memory) (course_of result.course).at }
+        ensures sound { M.sound (settings_of s.now) result.memory (course_of result.course).at }
     {
         State {
             memory: M::start(s),

@@ -39,14 +39,21 @@ step-state-requires-clause-asked g c =
     let h = held_known c.loop-k.invariant.0 c.if-k-schedule.false in
     record { below = h.below; procs = h.procs; hold = refl }
 
--- the turn that is made, and that the steps' sound holds after it
+-- the turn that is made, and that what steps keep holds after it
 turns : (g : Over) (c : After-far_of g)
-    → Turns g.M.Machine.rules g.M.Machine.sound (settings_of c.args.s) (g.M.Machine.memory c.loop-k.state.memory) (course_of c.loop-k.state.course) (slice_index_or c.args.schedule.now c.loop-k.k 0)
-    (g.M.Machine.memory c.match-due.state.memory) (course_of c.match-due.state.course) (told_of (slice_index_or c.args.schedule.now c.loop-k.k 0) c.match-due.state.made)
+    → Turns g.M.Machine.rules g.M.Machine.memory g.M.Machine.sound (settings_of c.args.s) c.loop-k.state.memory (course_of c.loop-k.state.course)
+    (slice_index_or c.args.schedule.now c.loop-k.k 0) c.match-due.state.memory (course_of c.match-due.state.course)
+    (told_of (slice_index_or c.args.schedule.now c.loop-k.k 0) c.match-due.state.made)
 turns g c = elim c.match-due.branch [
-  | in-Hold w ↦ rw w.state-is (turns_hold c.due.ensures w.in-Hold.is (ap g.M.Machine.memory w.holds-state.ensures.memory) w.holds-state.ensures.course w.holds-state.ensures.tells c.loop-k.invariant.1)
-  | in-Idle w ↦ rw w.state-is (turns_idle c.due.ensures w.in-Idle.is (ap g.M.Machine.memory w.idles-state.ensures.memory) (ap course_of w.idles-state.ensures.course) w.idles-state.ensures.tells c.loop-k.invariant.1)
-  | in-Step w ↦ rw w.state-is (turns_step c.due.ensures _ w.in-Step.is w.step-state.ensures.stepped w.step-state.ensures.sound)
+  | in-Hold w ↦
+      let e = w.holds-state.ensures in
+      rw w.state-is (turns_hold c.due.ensures w.in-Hold.is e.memory e.course e.tells c.loop-k.invariant.1)
+  | in-Idle w ↦
+      let e = w.idles-state.ensures in
+      rw w.state-is (turns_idle c.due.ensures w.in-Idle.is e.memory (ap course_of e.course) e.tells c.loop-k.invariant.1)
+  | in-Step w ↦
+      let e = w.step-state.ensures in
+      rw w.state-is (turns_step c.due.ensures w.in-Step.at w.in-Step.is e.stepped e.sound)
 ]
 
 pub tell-n-requires : goal.tell-n-requires

@@ -8,7 +8,7 @@ use Rattle.turns.proofs.playing.play.Given as goal
 abbrev pub invariant-loop-k : goal.invariant-loop-k
 invariant-loop-k g l =
     Held g.M.Machine.rules (settings_of l.s) l.schedule l.initial.events l.events (g.M.Machine.memory l.state.memory) (course_of l.state.course) l.sums l.total l.n l.k
-    × g.M.Machine.sound (settings_of l.s) (g.M.Machine.memory l.state.memory) (course_of l.state.course).at
+    × g.M.Machine.sound (settings_of l.s) l.state.memory (course_of l.state.course).at
 
 abbrev pub decreases-loop-k : goal.decreases-loop-k
 decreases-loop-k g l = length l.schedule - l.k

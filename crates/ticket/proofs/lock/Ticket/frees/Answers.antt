@@ -1,8 +1,8 @@
--- `ticket::lock::Lock::frees` meets its contract.
+-- `ticket::lock::Ticket::frees` meets its contract.
 use Rattle.std.proofs.Common.{refl, rules}
 use Rattle.rules.proofs.Views.{view}
-use Rattle.ticket.proofs.TicketTurns.{same_state}
-use Rattle.ticket.proofs.lock.Lock.frees.Goals as goal
+use Rattle.ticket.proofs.TicketStates.{same_state}
+use Rattle.ticket.proofs.lock.Ticket.frees.Goals as goal
 
 pub returns : goal.returns
 unfolding view

@@ -1,8 +1,8 @@
--- `ticket::lock::Lock::finds` meets its contract.
+-- `ticket::lock::Ticket::finds` meets its contract.
 use Rattle.std.proofs.Common.{refl, rules}
 use Rattle.rules.proofs.Views.{Place, view_put}
-use Rattle.ticket.proofs.TicketTurns.{same_state}
-use Rattle.ticket.proofs.lock.Lock.finds.Goals as goal
+use Rattle.ticket.proofs.TicketStates.{same_state}
+use Rattle.ticket.proofs.lock.Ticket.finds.Goals as goal
 
 pub returns : goal.returns
 returns c =
