@@ -1,6 +1,6 @@
 -- Laws for the function `count`: its stores into a processor's numbers are updates of their columns.
 use mathlib.Core.Path.{◌≡◌, refl, sym, ap, subst, ◌∙◌, fun_ext}
-use mathlib.Core.Bool.{Bool, true, false, true≢false}
+use mathlib.Core.Bool.{Bool, true, false}
 use mathlib.Core.List.{List}
 use Prim.Native.Nat.{ℕ, ◌+◌, ◌*◌, ◌<◌, ◌≤◌, max}
 use native.Mathlib.Decide.{ℕ_discrete, dec_lt}

@@ -10,10 +10,8 @@ use lib.ListN.{get_or, set, replicate}
 use Rattle.rules.specs.Memory.{pick, upd, each}
 use Rattle.rules.specs.Course as rules
 use Rattle.rules.proofs.Store.{upd_same, upd_other}
-use Rattle.rules.proofs.Turned.{same_upd}
 use Rattle.rules.proofs.Views.{view, Place, view_at, view_put, view_part, view_rest, view_blank}
 use Rattle.turns.specs.declared.course.Course.{Course}
-use Rattle.turns.specs.declared.course.Due.{Due}
 use Rattle.turns.specs.declared.course.Due.TheVariants.{Hold, Idle, Step}
 use Rattle.turns.specs.View.{holds, steps, lefts, course_of, Dues}
 

@@ -1,9 +1,8 @@
 -- Laws for a turn of any machine.
-use Rattle.std.proofs.Common.{◌≡◌, ℕ, ◌<◌, true, false, ◌&&◌, eqb, refl, sym, ap, ◌∙◌}
+use Rattle.std.proofs.Common.{◌≡◌, ℕ, true, false, ◌&&◌, eqb, refl, sym, ap}
 use Rattle.rules.specs.Memory.{pick}
 use Rattle.rules.specs.Settings.{Settings, entry}
 use Rattle.rules.specs.Step.{remote, nothing, stay, Step, Machine}
-use Rattle.rules.specs.Course as course
 use Rattle.rules.specs.Course.{Course}
 use Rattle.rules.proofs.Turned.{Told, Turned, by_hold, by_idle, by_step, same_upd}
 use Rattle.turns.specs.declared.course.Due.{Due}

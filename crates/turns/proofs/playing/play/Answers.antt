@@ -1,5 +1,5 @@
 -- `turns::playing::play` meets its contract.
-use Rattle.std.proofs.Common.{◌≡◌, ◌∙◌, refl, ap, arith, slice_index_or}
+use Rattle.std.proofs.Common.{refl, ap, arith, slice_index_or}
 use Rattle.settings.specs.View.{settings_of}
 use Rattle.turns.specs.View.{course_of, told_of}
 use Rattle.turns.proofs.Turning.{Turns, turns_hold, turns_idle, turns_step}
@@ -8,13 +8,11 @@ use Rattle.turns.proofs.playing.play.Given.{Over}
 use Rattle.turns.proofs.playing.play.Goals as goal
 use Rattle.turns.proofs.playing.play.Goals.{After-far_of, in-Hold, in-Idle, in-Step}
 
-
 pub loop-k-init : goal.loop-k-init
-loop-k-init g c =
-    (
-      held_first c.requires c.start-state.ensures.memory c.start-state.ensures.course,
-      c.start-state.ensures.sound,
-    )
+loop-k-init g c = (
+  held_first c.requires c.start-state.ensures.memory c.start-state.ensures.course,
+  c.start-state.ensures.sound,
+)
 
 pub bounds-s-i : goal.bounds-s-i
 bounds-s-i g c = (held_known c.loop-k.invariant.0 c.if-k-schedule.false).low
