@@ -1,10 +1,16 @@
 // A run over plain numbers: refusals, the machine that the settings name, its numbers. The table is filled afterwards.
 ghost use Rattle.std.specs.Prelude.{◌≡◌, replicate};
 ghost use Rattle.settings.specs.View.{settings_of};
+ghost use Rattle.turns.specs.Stopping.{stop_number};
 ghost use Rattle.machine.specs.RunView.{OutcomeIs};
 
+use central::Central;
+use dissem::Dissem;
+use mcs::Mcs;
 use settings::{ACCEPTED, CENTRAL, DISSEM, MCS, Settings, TICKET, TOO_SHORT, refused_by};
-use turns::Played;
+use ticket::Ticket;
+use tree::Tree;
+use turns::{Played, play};
 
 // count: how many records there are to write. sums: six numbers for each processor.
 #[derive(Clone, Copy)]
@@ -33,13 +39,13 @@ fn refused(number: u8) -> Outcome
 }
 
 fn accepted(procs: u16, p: Played) -> Outcome
-    ensures { result ≡ record { number = 0; turns = p.taken; stop = p.stop; events = p.events; total = p.total; count = procs; sums = p.sums } }
+    ensures { result ≡ record { number = 0; turns = p.taken; stop = stop_number p.stop; events = p.events; total = p.total; count = procs; sums = p.sums } }
 {
     let sums = p.sums;
     Outcome {
         number: ACCEPTED,
         turns: p.taken,
-        stop: p.stop,
+        stop: p.stop.number(),
         events: p.events,
         total: p.total,
         count: procs as usize,
@@ -63,11 +69,11 @@ pub(crate) fn core(s: Settings, schedule: &[u16], events: &mut [u16], room: usiz
     }
     let algo = s.algo;
     let p = match algo {
-        TICKET => ticket::play(s, schedule, events),
-        MCS => mcs::play(s, schedule, events),
-        CENTRAL => central::play(s, schedule, events),
-        DISSEM => dissem::play(s, schedule, events),
-        _ => tree::play(s, schedule, events),
+        TICKET => play::<Ticket>(s, schedule, events),
+        MCS => play::<Mcs>(s, schedule, events),
+        CENTRAL => play::<Central>(s, schedule, events),
+        DISSEM => play::<Dissem>(s, schedule, events),
+        _ => play::<Tree>(s, schedule, events),
     };
     accepted(s.procs, p)
 }
