@@ -1,2 +1,3 @@
 mod Checks
+mod Naming
 pub mod Outcome

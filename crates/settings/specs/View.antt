@@ -1,8 +1,9 @@
 -- What the settings record means, and what the check gives.
-use Rattle.std.specs.Prelude.{ℕ, ◌≡◌, true, List}
+use Rattle.std.specs.Prelude.{ℕ, Result, Ok, Err}
 use Rattle.rules.specs.Settings as rules
-use Rattle.rules.specs.Calls.{refusal}
-use Rattle.settings.specs.declared.Settings.{Settings}
+use Rattle.settings.specs.declared.refusal.Refusal.{Refusal}
+use Rattle.settings.specs.declared.record.Settings.{Settings}
+use Rattle.settings.specs.Numbers.{refusal_number}
 
 -- the rows are the code's own
 abbrev pub settings_of : Settings → rules.Settings
@@ -16,6 +17,7 @@ settings_of s = record {
   hold = s.hold;
 }
 
--- r is the number of refusal of settings and schedule, where there is room
-pub record Checked (s : Settings) (t : List ℕ) (r : ℕ) : Type 0 where
-  pub number : r ≡ refusal (settings_of s) t true
+-- of an answer its number: 0, or that of the refusal
+abbrev pub number_of : {A : Type 0} → Result A Refusal → ℕ
+number_of (Ok a) = 0
+number_of (Err r) = refusal_number r
