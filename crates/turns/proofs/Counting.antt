@@ -1,15 +1,7 @@
 -- Laws for the function `count`: its stores into a processor's numbers are updates of their columns.
-use mathlib.Core.Path.{◌≡◌, refl, sym, ap, subst, ◌∙◌, fun_ext}
-use mathlib.Core.Bool.{Bool, true, false}
-use mathlib.Core.List.{List}
-use Prim.Native.Nat.{ℕ, ◌+◌, ◌*◌, ◌<◌, ◌≤◌, max}
+use Rattle.std.proofs.Common.{◌≡◌, refl, sym, ap, subst, ◌∙◌, Bool, true, false, List, ℕ, ◌+◌, ◌*◌, ◌<◌, ◌≤◌, max, add-zero, arith, lt-ltb, le-ltb, eqb, ltb, length, get_or, set, length-set, lt-length-set}
+use mathlib.Core.Path.{fun_ext}
 use native.Mathlib.Decide.{ℕ_discrete, dec_lt}
-use native.Mathlib.Nat.{add-zero}
-use native.Mathlib.Omega.{arith}
-use borrow.Author.Tests.{lt-ltb, le-ltb}
-use lib.Dec.{eqb, ltb}
-use lib.ListN.{length, get_or, set, length-set}
-use lib.Seq.{lt-length-set}
 use Rattle.rules.specs.Memory.{pick, upd}
 use Rattle.rules.proofs.Store.{upd_same, upd_other, either}
 use Rattle.rules.proofs.Views.{column, column_set, column_other}

@@ -1,13 +1,7 @@
 -- What a machine's run, the counting of a turn, the kind of a processor's next turn, and a word with a bit changed are to be: the promises leave no choice.
-use mathlib.Core.Path.{◌≡◌, refl, sym, ap, ap₂, ◌∙◌, fun_ext}
-use mathlib.Core.Bool.{false, true≢false, ◌&&◌}
-use mathlib.Core.List.{List, [], ◌∷◌}
-use Prim.Native.Nat.{ℕ, zero, suc, ◌+◌, ◌*◌, ◌/◌, ◌%◌, ◌^◌, ◌≤◌, ◌<◌}
+use Rattle.std.proofs.Common.{◌≡◌, refl, sym, ap, ap₂, ◌∙◌, false, true≢false, ◌&&◌, List, [], ◌∷◌, ℕ, zero, suc, ◌+◌, ◌*◌, ◌/◌, ◌%◌, ◌^◌, ◌≤◌, ◌<◌, arith, eq-eqb, eqb, length, get_or}
+use mathlib.Core.Path.{fun_ext}
 use native.Mathlib.Nat.{pow-succ', div-div-eq-div-mul}
-use native.Mathlib.Omega.{arith}
-use borrow.Author.Tests.{eq-eqb}
-use lib.Dec.{eqb}
-use lib.ListN.{length, get_or}
 use Rattle.rules.specs.Settings.{Settings}
 use Rattle.rules.specs.Step.{Machine}
 use Rattle.rules.specs.Course.{Course}

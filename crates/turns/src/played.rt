@@ -19,13 +19,6 @@ pub struct Played {
     pub sums: [u16; 384],
 }
 
-// Why the run ended, and after how many turns.
-#[derive(Clone, Copy)]
-pub struct End {
-    pub stop: Stop,
-    pub taken: usize,
-}
-
 impl Stop {
     pub fn number(self) -> u8
         ensures { result ≡ stop_number self }

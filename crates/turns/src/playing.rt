@@ -1,35 +1,31 @@
 // The run of a machine over a schedule.
-ghost use Rattle.std.specs.Prelude.{length};
+ghost use Rattle.std.specs.Prelude.{◌*◌, ◌≤◌, length};
 ghost use Rattle.settings.specs.View.{settings_of};
-ghost use Rattle.turns.specs.PlayView.{Ready, PlayedIs};
+ghost use Rattle.turns.specs.PlayView.{PlayedIs};
 
 use crate::counts::{far_of, tell};
 use crate::course::Due;
 use crate::machine::{Machine, State};
-use crate::played::{End, Played, Stop};
+use crate::played::{Played, Stop};
 use crate::step::Step;
-use settings::Settings;
+use settings::Trial;
 
-pub fn play<M: Machine>(s: Settings, schedule: &[u16], events: &mut [u16]) -> Played
-    requires { Ready (settings_of s) schedule.now (length events.old) }
-    ensures { PlayedIs M.rules (settings_of s) schedule.now events.old events.new result }
+pub fn play<M: Machine>(trial: Trial<'_>, events: &mut [u16]) -> Played
+    requires { 2 * length trial.schedule.now ≤ length events.old }
+    ensures { PlayedIs M.rules (settings_of trial.entry.settings) trial.entry.schedule.now events.old events.new result }
 {
-    let mut state = State::<M>::start(&s);
+    let mut state = State::<M>::start(&trial.settings);
     let mut sums = [0; 384];
     let mut total: u32 = 0;
     let mut n: usize = 0;
     let mut k: usize = 0;
-    let end = loop {
-        if k == schedule.len() {
-            break End {
-                stop: Stop::UsedUp,
-                taken: k,
-            };
-        }
-        let w = schedule[k];
+    let (stop, taken) = loop {
+        let Some(&w) = trial.schedule.get(k) else {
+            break (Stop::UsedUp, k);
+        };
         let i = w as usize;
         // Each arm stores the next state by itself: in a function of its own, or as the value of the match, it costs twice as much.
-        match state.course.due(i, s.rounds[i]) {
+        match state.course.due(i, trial.settings.rounds[i]) {
             Due::Hold => state = state.holds(w),
             Due::Idle => state = state.idles(w),
             Due::Step(at) => {
@@ -37,25 +33,22 @@ pub fn play<M: Machine>(s: Settings, schedule: &[u16], events: &mut [u16]) -> Pl
                     course: state.course,
                     w,
                     at,
-                    hold: s.hold[i] as u8,
+                    hold: trial.settings.hold[i] as u8,
                 };
-                state = state.memory.step(step, &s);
+                state = state.memory.step(step, &trial.settings);
             }
         }
         let paid = total + far_of(state.made.owner, w);
-        if s.budget < paid {
-            break End {
-                stop: Stop::Budget,
-                taken: k,
-            };
+        if trial.settings.budget < paid {
+            break (Stop::Budget, k);
         }
         total = paid;
         n = tell(&mut sums, events, n, w, state.made);
         k += 1;
     };
     Played {
-        stop: end.stop,
-        taken: end.taken,
+        stop,
+        taken,
         events: n,
         total,
         sums,
