@@ -1,26 +1,20 @@
 // The dissemination barrier (figure 10).
-ghost use Rattle.std.specs.Prelude.{◌≡◌, ℕ, ◌<◌, ◌≤◌, ◌+◌, ◌-◌, ◌*◌, ◌%◌, ◌^◌, eqb};
+ghost use Rattle.std.specs.Prelude.{◌≡◌, ◌<◌, ◌≤◌, ◌+◌, ◌-◌, ◌*◌, ◌%◌, ◌^◌, eqb};
 ghost use Rattle.rules.specs.Memory.{pick, upd};
 ghost use Rattle.rules.specs.Dissem.{machine, doublings};
-ghost use Rattle.turns.specs.View.{told_of, Starts, Turns};
-ghost use Rattle.dissem.specs.DissemView.{sense_of, parity_of, round_of, flags_of, state_of, course_in, Sound};
+ghost use Rattle.dissem.specs.DissemView.{sense_of, parity_of, round_of, memory_of, Sound};
 
-use turns::{Course, Due, Made, bit, made, with_bit};
+use crate::doublings::levels;
+use settings::Settings;
+use turns::{Kind, Machine, Says, State, Step, bit, with_bit};
 
-// flags: of each processor its flags, variable v as bit v. own: its round * 4 + parity * 2 + sense.
-// gap: always 0. A number between two rows keeps them from being copied as one.
+// flags: of each processor its flags, variable v as bit v. levels: R. own: of each processor its round * 4 + parity * 2 + sense.
+// levels stands between the rows: the compiler then copies only the one that a step changes.
 #[derive(Clone, Copy)]
-pub(crate) struct Flags {
+pub struct Dissem {
     flags: [u16; 64],
-    gap: u16,
+    levels: u8,
     own: [u8; 64],
-}
-
-#[derive(Clone, Copy)]
-pub(crate) struct Dissem {
-    flags: Flags,
-    course: Course,
-    pub(crate) made: Made,
 }
 
 fn sense(own: u8) -> u16
@@ -60,120 +54,79 @@ fn partner(w: u16, k: u8, procs: u16) -> u16
     j
 }
 
-impl Flags {
+impl Dissem {
     // Processor i writes its sense into j's flag, at its own parity and round.
-    fn tells(self, i: usize, j: usize) -> Flags
-        requires { (i < 64) × (j < 64) × ((flags_of self).round i < 6) }
-        ensures { flags_of result ≡ record { flag = upd (flags_of self).flag j (upd ((flags_of self).flag j) (2 * (flags_of self).round i + (flags_of self).parity i) ((flags_of self).sense i)); sense = (flags_of self).sense; parity = (flags_of self).parity; round = (flags_of self).round } }
+    fn tells(self, i: usize, j: usize) -> Dissem
+        requires { (i < 64) × (j < 64) × ((memory_of self).round i < 6) }
+        ensures { memory_of result ≡ record { flag = upd (memory_of self).flag j (upd ((memory_of self).flag j) (2 * (memory_of self).round i + (memory_of self).parity i) ((memory_of self).sense i)); sense = (memory_of self).sense; parity = (memory_of self).parity; round = (memory_of self).round } }
     {
         let own = self.own;
         let o = own[i];
         let mut flags = self.flags;
         flags[j] = with_bit(flags[j], variable(o), sense(o));
-        Flags { flags, gap: 0, own }
+        Dissem { flags, ..self }
     }
 
     // Processor i goes to the next round.
-    fn goes_on(self, i: usize) -> Flags
-        requires { (i < 64) × ((flags_of self).round i < 6) }
-        ensures { flags_of result ≡ record { flag = (flags_of self).flag; sense = (flags_of self).sense; parity = (flags_of self).parity; round = upd (flags_of self).round i ((flags_of self).round i + 1) } }
+    fn goes_on(self, i: usize) -> Dissem
+        requires { (i < 64) × ((memory_of self).round i < 6) }
+        ensures { memory_of result ≡ record { flag = (memory_of self).flag; sense = (memory_of self).sense; parity = (memory_of self).parity; round = upd (memory_of self).round i ((memory_of self).round i + 1) } }
     {
-        let flags = self.flags;
         let mut own = self.own;
-        own[i] = own[i] + 4;
-        Flags { flags, gap: 0, own }
+        own[i] += 4;
+        Dissem { own, ..self }
     }
 
-    fn leaves(self, i: usize) -> Flags
+    fn leaves(self, i: usize) -> Dissem
         requires { i < 64 }
-        ensures { flags_of result ≡ record { flag = (flags_of self).flag; sense = upd (flags_of self).sense i (pick (eqb ((flags_of self).parity i) 1) (1 - (flags_of self).sense i) ((flags_of self).sense i)); parity = upd (flags_of self).parity i (1 - (flags_of self).parity i); round = upd (flags_of self).round i 0 } }
+        ensures { memory_of result ≡ record { flag = (memory_of self).flag; sense = upd (memory_of self).sense i (pick (eqb ((memory_of self).parity i) 1) (1 - (memory_of self).sense i) ((memory_of self).sense i)); parity = upd (memory_of self).parity i (1 - (memory_of self).parity i); round = upd (memory_of self).round i 0 } }
     {
-        let flags = self.flags;
         let mut own = self.own;
         own[i] = left(own[i]);
-        Flags { flags, gap: 0, own }
+        Dissem { own, ..self }
     }
 }
 
-impl Dissem {
-    pub(crate) fn start() -> Dissem
-        ensures { Starts machine (λ s. Unit {0}) (state_of result) (course_in result) × ((levels : ℕ) → Sound levels (state_of result) (course_in result)) }
-    {
-        let flags = Flags {
-            flags: [0; 64],
-            gap: 0,
-            own: [1; 64],
-        };
+impl Machine for Dissem {
+    ghost rules = { machine };
+
+    ghost memory = { memory_of };
+
+    ghost sound = { Sound };
+
+    fn start(s: &Settings) -> Dissem {
         Dissem {
-            flags,
-            course: Course::start(),
-            made: made::none(0, false),
+            flags: [0; 64],
+            levels: levels(s.procs),
+            own: [1; 64],
         }
     }
 
-    // Processor w's turn. levels: R.
-    pub(crate) fn turn(self, w: u16, procs: u16, levels: u8, rounds: u16, hold: u8) -> Dissem
-        requires { (w < procs) × (procs ≤ 64) × (levels ≡ doublings procs) × ((course_in self).done w < 65535) × Sound levels (state_of self) (course_in self) }
-        ensures { Turns machine (λ s. s.procs ≡ procs) w rounds hold (state_of self) (course_in self) (state_of result) (course_in result) (told_of w result.made) × Sound levels (state_of result) (course_in result) }
-    {
+    fn step(self, step: Step, s: &Settings) -> State<Dissem> {
+        let w = step.w;
+        let at = step.at;
         let i = w as usize;
-        let flags = self.flags;
-        let course = self.course;
-        let due = course.due(i, rounds);
-        let step = match due {
-            Due::Hold => {
-                return Dissem {
-                    flags,
-                    course: course.held(i),
-                    made: made::none(w, false),
-                };
-            }
-            Due::Idle => {
-                return Dissem {
-                    flags,
-                    course,
-                    made: made::none(w, true),
-                };
-            }
-            Due::Step(step) => step,
-        };
-        let own = flags.own;
+        let own = self.own;
         let o = own[i];
-        // Every way returns: the state is then copied nowhere.
-        if step == 2 {
-            let words = flags.flags;
-            if bit(words[i], variable(o)) != sense(o) {
-                return Dissem {
-                    flags,
-                    course,
-                    made: made::spin(w),
-                };
+        if at == 2 {
+            let flags = self.flags;
+            if bit(flags[i], variable(o)) != sense(o) {
+                return step.stay(self, w);
             }
-            if (o >> 2) + 1 == levels {
-                return Dissem {
-                    flags: flags.leaves(i),
-                    course: course.leaves(i, hold),
-                    made: made::last(w, made::LEAVE),
-                };
+            if (o >> 2) + 1 == self.levels {
+                return step.over(self.leaves(i), w, Says::One(Kind::Leave));
             }
-            return Dissem {
-                flags: flags.goes_on(i),
-                course: course.goes(i, 3),
-                made: made::later(w, 0, 0),
-            };
+            return step.to(self.goes_on(i), w, Says::Nothing, 3);
         }
-        if procs == 1 {
-            return Dissem {
-                flags,
-                course: course.leaves(i, hold),
-                made: made::alone(w),
-            };
+        if s.procs == 1 {
+            return step.over(self, w, Says::Two(Kind::Arrive, Kind::Leave));
         }
-        let j = partner(w, o >> 2, procs);
-        Dissem {
-            flags: flags.tells(i, j as usize),
-            course: course.goes(i, 2),
-            made: made::going(j, step == 1, false),
-        }
+        let j = partner(w, o >> 2, s.procs);
+        let says = if at == 1 {
+            Says::One(Kind::Arrive)
+        } else {
+            Says::Nothing
+        };
+        return step.to(self.tells(i, j as usize), j, says, 2);
     }
 }

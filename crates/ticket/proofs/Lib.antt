@@ -1,1 +1,1 @@
-pub mod TicketTurns
+pub mod TicketStates

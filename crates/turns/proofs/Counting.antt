@@ -1,22 +1,16 @@
 -- Laws for the function `count`: its stores into a processor's numbers are updates of their columns.
-use mathlib.Core.Path.{◌≡◌, refl, sym, ap, subst, ◌∙◌, fun_ext}
-use mathlib.Core.Bool.{Bool, true, false, true≢false}
-use mathlib.Core.List.{List}
-use Prim.Native.Nat.{ℕ, ◌+◌, ◌*◌, ◌<◌, ◌≤◌, max}
+use Rattle.std.proofs.Common.{◌≡◌, refl, sym, ap, subst, ◌∙◌, Bool, true, false, List, ℕ, ◌+◌, ◌*◌, ◌<◌, ◌≤◌, max, add-zero, arith, lt-ltb, le-ltb, eqb, ltb, length, get_or, set, length-set, lt-length-set}
+use mathlib.Core.Path.{fun_ext}
 use native.Mathlib.Decide.{ℕ_discrete, dec_lt}
-use native.Mathlib.Nat.{add-zero}
-use native.Mathlib.Omega.{arith}
-use borrow.Author.Tests.{lt-ltb, le-ltb}
-use lib.Dec.{eqb, ltb}
-use lib.ListN.{length, get_or, set, length-set}
-use lib.Seq.{lt-length-set}
 use Rattle.rules.specs.Memory.{pick, upd}
 use Rattle.rules.proofs.Store.{upd_same, upd_other, either}
 use Rattle.rules.proofs.Views.{column, column_set, column_other}
-use Rattle.rules.proofs.Turned.{OneKind, one_if, counted, same_tally, same_upd, kept}
+use Rattle.rules.proofs.Turned.{one_if, counted, same_tally, same_upd, kept}
 use Rattle.turns.specs.declared.made.Made.{Made}
-use Rattle.turns.specs.View.{told_of}
-use Rattle.turns.specs.CountView.{Room, Counted, begun, farther, one_more, by_kind}
+use Rattle.turns.specs.declared.made.Went.{Went}
+use Rattle.turns.specs.declared.made.Went.TheVariants.{Spun, Idled, Over, On}
+use Rattle.turns.specs.View.{told_of, is_spun, is_idled, is_over}
+use Rattle.turns.specs.CountView.{Room, Counted, begun, farther, one_more, by_went}
 
 -- six columns, each with a number for every processor
 abbrev Table : Type 0
@@ -59,8 +53,11 @@ module _ (w : ℕ) where
       let here : ℕ = t 3 w + 1 in
       pick near t (put 3 here (put 2 (max (t 2 w) here) (put 1 (t 1 w + 1) t)))
 
-  unfoldable counts_in : Bool → Bool → Bool → Table → Table
-  counts_in spin idle done t = pick spin (put 4 (t 4 w + 1) t) (pick idle (put 5 (t 5 w + 1) t) (pick done (put 0 (t 0 w + 1) t) t))
+  unfoldable counts_in : Went → Table → Table
+  counts_in Spun t = put 4 (t 4 w + 1) t
+  counts_in Idled t = put 5 (t 5 w + 1) t
+  counts_in Over t = put 0 (t 0 w + 1) t
+  counts_in On t = t
 
   module _ (row : List ℕ) (p : w * 6 + 5 < length row) where
     begun_table : (b : Bool) → table (begun b (w * 6) row) ≡ begins_in b (table row)
@@ -79,12 +76,12 @@ module _ (w : ℕ) where
         table_set (set one (w * 6 + 2) most) 3 here (omega arith) (lt-length-set one (w * 6 + 2) most q)
         ∙ ap (put 3 here) (table_set one 2 most (omega arith) q ∙ ap (put 2 most) (table_set row 1 _ (omega arith) p))
 
-    kind_table : (spin idle done : Bool) → table (by_kind spin idle done (w * 6) row) ≡ counts_in spin idle done (table row)
+    went_table : (went : Went) → table (by_went went (w * 6) row) ≡ counts_in went (table row)
     unfolding counts_in table column
-    kind_table true idle done = table_set row 4 _ (omega arith) p
-    kind_table false true done = table_set row 5 _ (omega arith) p
-    kind_table false false true = ap (λ (i : ℕ). table (one_more i row)) (sym (add-zero (w * 6))) ∙ table_set row 0 _ (omega arith) p
-    kind_table false false false = refl
+    went_table Spun = table_set row 4 _ (omega arith) p
+    went_table Idled = table_set row 5 _ (omega arith) p
+    went_table Over = ap (λ (i : ℕ). table (one_more i row)) (sym (add-zero (w * 6))) ∙ table_set row 0 _ (omega arith) p
+    went_table On = refl
 
   module _ (t : Table) where
     begins_few : (b : Bool) → t 1 w < 65535 → t 3 w < 65535 → (begins_in b t 1 w < 65535) × (begins_in b t 3 w < 65535)
@@ -109,23 +106,20 @@ module _ (w : ℕ) where
     front false false l = record { of_done = refl; of_far = refl; of_most = refl; of_here = refl; of_spins = refl; of_idle = refl }
 
     -- and where it is counted
-    record Back (spin idle done : Bool) (u : Table) : Type 0 where
-      of_done : u 0 ≡ upd (t 0) w (t 0 w + one_if done)
+    record Back (went : Went) (u : Table) : Type 0 where
+      of_done : u 0 ≡ upd (t 0) w (t 0 w + one_if (is_over went))
       of_far : u 1 ≡ t 1
       of_most : u 2 ≡ t 2
       of_here : u 3 ≡ t 3
-      of_spins : u 4 ≡ upd (t 4) w (t 4 w + one_if spin)
-      of_idle : u 5 ≡ upd (t 5) w (t 5 w + one_if idle)
+      of_spins : u 4 ≡ upd (t 4) w (t 4 w + one_if (is_spun went))
+      of_idle : u 5 ≡ upd (t 5) w (t 5 w + one_if (is_idled went))
 
-    back : (spin idle done : Bool) → (spin ≡ true → (idle ≡ false) × (done ≡ false)) → (idle ≡ true → done ≡ false) → Back spin idle done (counts_in spin idle done t)
+    back : (went : Went) → Back went (counts_in went t)
     unfolding counts_in put upd
-    back true true done f g = absurd (true≢false (f refl).0)
-    back true false true f g = absurd (true≢false (f refl).1)
-    back true false false f g = record { of_done = kept (t 0) w; of_far = refl; of_most = refl; of_here = refl; of_spins = refl; of_idle = kept (t 5) w }
-    back false true true f g = absurd (true≢false (g refl))
-    back false true false f g = record { of_done = kept (t 0) w; of_far = refl; of_most = refl; of_here = refl; of_spins = kept (t 4) w; of_idle = refl }
-    back false false true f g = record { of_done = refl; of_far = refl; of_most = refl; of_here = refl; of_spins = kept (t 4) w; of_idle = kept (t 5) w }
-    back false false false f g = record { of_done = kept (t 0) w; of_far = refl; of_most = refl; of_here = refl; of_spins = kept (t 4) w; of_idle = kept (t 5) w }
+    back Spun = record { of_done = kept (t 0) w; of_far = refl; of_most = refl; of_here = refl; of_spins = refl; of_idle = kept (t 5) w }
+    back Idled = record { of_done = kept (t 0) w; of_far = refl; of_most = refl; of_here = refl; of_spins = kept (t 4) w; of_idle = refl }
+    back Over = record { of_done = refl; of_far = refl; of_most = refl; of_here = refl; of_spins = kept (t 4) w; of_idle = kept (t 5) w }
+    back On = record { of_done = kept (t 0) w; of_far = refl; of_most = refl; of_here = refl; of_spins = kept (t 4) w; of_idle = kept (t 5) w }
 
   -- ---- the numbers of the processor before each part, and after all
 
@@ -150,9 +144,9 @@ module _ (w : ℕ) where
       unfolding column table
       table_c = rw (ec, far_table b place_b (eqb made.owner w), table_b) (front (table a) made.began (eqb made.owner w) room.low)
 
-      pub room_kind : (w * 6 + 5 < length c) × (get_or c (w * 6) 0 < 65535) × (get_or c (w * 6 + 4) 0 < 65535) × (get_or c (w * 6 + 5) 0 < 65535)
+      pub room_went : (w * 6 + 5 < length c) × (get_or c (w * 6) 0 < 65535) × (get_or c (w * 6 + 4) 0 < 65535) × (get_or c (w * 6 + 5) 0 < 65535)
       unfolding column table
-      room_kind =
+      room_went =
           let few : (f g : ℕ → ℕ) → f ≡ g → g w < 65535 → f w < 65535 = λ f g e l. rw e l in (
             place_c,
             rw (add-zero (w * 6)) at (few (table c 0) (table a 0) table_c.of_done (room.few 0 (omega arith))),
@@ -160,16 +154,16 @@ module _ (w : ℕ) where
             few (table c 5) (table a 5) table_c.of_idle (room.few 5 (omega arith)),
           )
 
-      pub counted_all : (e : List ℕ) → e ≡ by_kind made.spin made.idle made.done (w * 6) c → OneKind (told_of w made) → Counted w (told_of w made) a e
+      pub counted_all : (e : List ℕ) → e ≡ by_went made.went (w * 6) c → Counted w (told_of w made) a e
       unfolding column table counted
-      counted_all e ee k =
-          let te : table e ≡ counts_in made.spin made.idle made.done (table c) = rw ee (kind_table c place_c made.spin made.idle made.done) in
-          let z = back (table c) made.spin made.idle made.done k.of_spin k.of_idle in
+      counted_all e ee =
+          let te : table e ≡ counts_in made.went (table c) = rw ee (went_table c place_c made.went) in
+          let z = back (table c) made.went in
           let plus : ℕ → (ℕ → ℕ) → ℕ → ℕ = λ n f. upd f w (f w + n) in
           record {
-            done = ap (λ (t : Table). t 0) te ∙ z.of_done ∙ ap (plus (one_if made.done)) table_c.of_done;
+            done = ap (λ (t : Table). t 0) te ∙ z.of_done ∙ ap (plus (one_if (is_over made.went))) table_c.of_done;
             tally = λ total.
                 same_tally _ _ (ap (λ (t : Table). t 1) te ∙ z.of_far ∙ table_c.of_far) (ap (λ (t : Table). t 2) te ∙ z.of_most ∙ table_c.of_most)
-                (ap (λ (t : Table). t 3) te ∙ z.of_here ∙ table_c.of_here) (ap (λ (t : Table). t 4) te ∙ z.of_spins ∙ ap (plus (one_if made.spin)) table_c.of_spins)
-                (ap (λ (t : Table). t 5) te ∙ z.of_idle ∙ ap (plus (one_if made.idle)) table_c.of_idle) refl;
+                (ap (λ (t : Table). t 3) te ∙ z.of_here ∙ table_c.of_here) (ap (λ (t : Table). t 4) te ∙ z.of_spins ∙ ap (plus (one_if (is_spun made.went))) table_c.of_spins)
+                (ap (λ (t : Table). t 5) te ∙ z.of_idle ∙ ap (plus (one_if (is_idled made.went))) table_c.of_idle) refl;
           }

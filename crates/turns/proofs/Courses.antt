@@ -1,19 +1,12 @@
 -- Laws for the functions of `course`.
-use mathlib.Core.Path.{◌≡◌, refl, sym, ap, ap₂, ◌∙◌, fun_ext}
-use mathlib.Core.List.{List, [], ◌∷◌}
-use Prim.Native.Nat.{ℕ, zero, suc, ◌+◌, ◌-◌, ◌%◌, ◌≤◌, ◌<◌}
+use Rattle.std.proofs.Common.{◌≡◌, refl, sym, ap, ap₂, ◌∙◌, List, [], ◌∷◌, ℕ, zero, suc, ◌+◌, ◌-◌, ◌%◌, ◌≤◌, ◌<◌, arith, lt-ltb, le-ltb, eq-eqb, ne_eqb, eqb, ltb, get_or, set, replicate}
+use mathlib.Core.Path.{fun_ext}
 use native.Mathlib.Decide.{ℕ_discrete, dec_lt}
-use native.Mathlib.Omega.{arith}
-use borrow.Author.Tests.{lt-ltb, le-ltb, eq-eqb, ne_eqb}
-use lib.Dec.{eqb, ltb}
-use lib.ListN.{get_or, set, replicate}
 use Rattle.rules.specs.Memory.{pick, upd, each}
 use Rattle.rules.specs.Course as rules
 use Rattle.rules.proofs.Store.{upd_same, upd_other}
-use Rattle.rules.proofs.Turned.{same_upd}
 use Rattle.rules.proofs.Views.{view, Place, view_at, view_put, view_part, view_rest, view_blank}
 use Rattle.turns.specs.declared.course.Course.{Course}
-use Rattle.turns.specs.declared.course.Due.{Due}
 use Rattle.turns.specs.declared.course.Due.TheVariants.{Hold, Idle, Step}
 use Rattle.turns.specs.View.{holds, steps, lefts, course_of, Dues}
 
@@ -60,14 +53,7 @@ module _ (c : Course) (i : ℕ) (r : Rows c i) (v : ℕ) where
       ap₂ {C = ℕ → ℕ} (λ (f g : ℕ → ℕ) (j : ℕ). left_in (f j) (g j)) (view_put 1 r.at refl) (view_put 0 r.left refl)
       ∙ both left_in (view 1 c.at) (view 0 c.left) i v u ∙ ap (upd (λ (j : ℕ). left_in (view 1 c.at j) (view 0 c.left j)) i) e
 
-  pub lefts_none : v < holds → lefts (set c.at i v) c.left ≡ upd (lefts c.at c.left) i 0
-  unfolding lefts
-  lefts_none h =
-      let q : ℕ → ℕ = view 0 c.left in
-      ap₂ {C = ℕ → ℕ} (λ (f g : ℕ → ℕ) (j : ℕ). left_in (f j) (g j)) (view_put 1 r.at refl) (sym (same_upd q i (q i) refl))
-      ∙ both left_in (view 1 c.at) q i v (q i) ∙ ap (upd (λ (j : ℕ). left_in (view 1 c.at j) (q j)) i) (rw (lt-ltb v holds h) refl)
-
--- what `after_hold` and `one_less` give
+-- what `after_hold` gives
 module _ (step hold v : ℕ) (h : step < holds) (e : v ≡ pick (eqb hold 0) step (step + holds)) where
   pub after_step : v % holds ≡ step
   after_step = go (ℕ_discrete hold 0)
@@ -76,10 +62,10 @@ module _ (step hold v : ℕ) (h : step < holds) (e : v ≡ pick (eqb hold 0) ste
       go (yes z) = omega (arith, rw (eq-eqb hold 0 z) at e)
       go (no n) = omega (arith, rw (ne_eqb hold 0 n) at e)
 
-  pub after_left : (u : ℕ) → u ≡ hold - 1 → left_in v u ≡ hold
-  after_left u f = go (ℕ_discrete hold 0)
+  pub after_left : left_in v (hold - 1) ≡ hold
+  after_left = go (ℕ_discrete hold 0)
     where
-      go : Dec (hold ≡ 0) → left_in v u ≡ hold
+      go : Dec (hold ≡ 0) → left_in v (hold - 1) ≡ hold
       go (yes z) = rw (lt-ltb v holds (omega (arith, rw (eq-eqb hold 0 z) at e))) (sym z)
       go (no n) = rw (le-ltb v holds (omega (arith, rw (ne_eqb hold 0 n) at e))) (omega arith)
 
@@ -92,10 +78,10 @@ module _ (c : Course) (i : ℕ) (r : Rows c i) (h : holds ≤ get_or c.at i 0) (
       view_rest (λ (b : ℕ). b % holds) 1 r.at
       (rw (view_at 1 r.at) (after_step (get_or c.at i 0 % holds) (get_or c.left i 0) v (omega arith) e))
 
-  pub held_lefts : (u : ℕ) → u ≡ get_or c.left i 0 - 1 → lefts (set c.at i v) (set c.left i u) ≡ upd (lefts c.at c.left) i (lefts c.at c.left i - 1)
+  pub held_lefts : lefts (set c.at i v) (set c.left i (get_or c.left i 0 - 1)) ≡ upd (lefts c.at c.left) i (lefts c.at c.left i - 1)
   unfolding lefts
-  held_lefts u f =
-      lefts_put c i r v u _ (after_left (get_or c.at i 0 % holds) (get_or c.left i 0) v (omega arith) e u f
+  held_lefts =
+      lefts_put c i r v _ _ (after_left (get_or c.at i 0 % holds) (get_or c.left i 0) v (omega arith) e
       ∙ rw (view_at 1 r.at, view_at 0 r.left, le-ltb (get_or c.at i 0) holds h) (omega arith))
 
 -- ---- what a turn is, by the tests
@@ -127,16 +113,12 @@ module _ (c : Course) (i rounds : ℕ) (r : Rows c i) where
     due_step a = (none, is, rw (ne_eqb _ _ a))
 
 -- before a hold turn the row says so
-pub held_some : (at left : List ℕ) (f g : ℕ → ℕ) (i rounds : ℕ) (what : Due) → Dues (record { at = f; left = lefts at left; done = g }) i rounds what
-    → what ≡ Hold → holds ≤ get_or at i 0
+pub held_some : (at left : List ℕ) (i : ℕ) → 0 < lefts at left i → holds ≤ get_or at i 0
 unfolding lefts view
-held_some at left f g i rounds what e h = go at i (some (dec_lt (get_or at i 1) holds))
+held_some at left i h = go at i (some (dec_lt (get_or at i 1) holds))
   where
-    left_some : 0 < lefts at left i
-    left_some = rw h at e
-
     some : Dec (get_or at i 1 < holds) → holds ≤ get_or at i 1
-    some (yes l) = absurd (omega (arith, rw (lt-ltb (get_or at i 1) holds l) at left_some))
+    some (yes l) = absurd (omega (arith, rw (lt-ltb (get_or at i 1) holds l) at h))
     some (no n) = omega arith
 
     go : (row : List ℕ) (i : ℕ) → holds ≤ get_or row i 1 → holds ≤ get_or row i 0

@@ -1,13 +1,7 @@
 -- What a machine's run, the counting of a turn, the kind of a processor's next turn, and a word with a bit changed are to be: the promises leave no choice.
-use mathlib.Core.Path.{◌≡◌, refl, sym, ap, ap₂, ◌∙◌, fun_ext}
-use mathlib.Core.Bool.{false, true≢false, ◌&&◌}
-use mathlib.Core.List.{List, [], ◌∷◌}
-use Prim.Native.Nat.{ℕ, zero, suc, ◌+◌, ◌*◌, ◌/◌, ◌%◌, ◌^◌, ◌≤◌, ◌<◌}
+use Rattle.std.proofs.Common.{◌≡◌, refl, sym, ap, ap₂, ◌∙◌, false, true≢false, ◌&&◌, List, [], ◌∷◌, ℕ, zero, suc, ◌+◌, ◌*◌, ◌/◌, ◌%◌, ◌^◌, ◌≤◌, ◌<◌, arith, eq-eqb, eqb, length, get_or}
+use mathlib.Core.Path.{fun_ext}
 use native.Mathlib.Nat.{pow-succ', div-div-eq-div-mul}
-use native.Mathlib.Omega.{arith}
-use borrow.Author.Tests.{eq-eqb}
-use lib.Dec.{eqb}
-use lib.ListN.{length, get_or}
 use Rattle.rules.specs.Settings.{Settings}
 use Rattle.rules.specs.Step.{Machine}
 use Rattle.rules.specs.Course.{Course}
@@ -17,7 +11,10 @@ use Rattle.rules.proofs.Views.{column}
 use Rattle.turns.specs.declared.course.Due.{Due}
 use Rattle.turns.specs.declared.course.Due.TheVariants.{Hold, Idle, Step}
 use Rattle.turns.specs.declared.played.Played.{Played}
+use Rattle.turns.specs.declared.played.Stop.{Stop}
+use Rattle.turns.specs.declared.played.Stop.TheVariants.{UsedUp, Budget}
 use Rattle.turns.specs.BitView.{bits}
+use Rattle.turns.specs.Stopping.{stop_number}
 use Rattle.turns.specs.View.{Dues}
 use Rattle.turns.specs.CountView.{numbers, done_of, tally_of, Counted, Noted}
 use Rattle.turns.specs.PlayView.{PlayedIs}
@@ -50,13 +47,19 @@ same_sums a b t u n d e = same_row a b n at
 
 -- ---- `play` of each machine
 
+same_stop : (a b : Stop) → stop_number a ≡ stop_number b → a ≡ b
+same_stop UsedUp UsedUp e = refl
+same_stop UsedUp Budget e = absurd (omega (arith, e))
+same_stop Budget UsedUp e = absurd (omega (arith, e))
+same_stop Budget Budget e = refl
+
 pub one_outcome : (m : Machine) (s : Settings) (turns events events₁ events₂ : List ℕ) (p q : Played) → length p.sums ≡ length q.sums
     → PlayedIs m s turns events events₁ p → PlayedIs m s turns events events₂ q → (p ≡ q) × (events₁ ≡ events₂)
 one_outcome m s turns events events₁ events₂ p q n a b =
     let tally : tally_of p.sums p.total ≡ tally_of q.sums q.total = a.tally ∙ sym b.tally in
     let sums : p.sums ≡ q.sums = same_sums p.sums q.sums p.total q.total n (a.done ∙ sym b.done) tally in
     let total : p.total ≡ q.total = ap (λ (x : Tally). x.total) tally in
-    let stop : p.stop ≡ q.stop = a.stop ∙ sym b.stop in
+    let stop : p.stop ≡ q.stop = same_stop p.stop q.stop (a.stop ∙ sym b.stop) in
     let taken : p.taken ≡ q.taken = a.taken ∙ sym b.taken in
     let count : p.events ≡ q.events = a.events ∙ sym b.events in
     (rw (stop, taken, count, total, sums) refl, a.row ∙ sym b.row)

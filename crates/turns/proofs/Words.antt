@@ -1,12 +1,10 @@
 -- Laws of the bits of a word.
-use mathlib.Core.Path.{◌≡◌, refl, ◌∙◌, fun_ext}
-use mathlib.Core.Logic.{◌≢◌}
-use Prim.Native.Nat.{ℕ, zero, suc, ◌+◌, ◌-◌, ◌*◌, ◌/◌, ◌%◌, ◌^◌, ◌<◌}
+use Rattle.std.proofs.Common.{◌≡◌, refl, ◌∙◌, ◌≢◌, ℕ, zero, suc, ◌+◌, ◌-◌, ◌*◌, ◌/◌, ◌%◌, ◌^◌, ◌<◌, one-mul, pow-suc, arith, bit_xor, pow-add, shl_exact}
+use mathlib.Core.Path.{fun_ext}
 use native.Mathlib.Decide.{ℕ_discrete, dec_lt}
-use native.Mathlib.Nat.{one-mul, pow-suc, mul-mod_left, div-eq_of_lt, zero-div}
-use native.Mathlib.Omega.{arith}
-use lib.Bits.{bit_xor, xor_shr, xor_mod, xor_zero_r}
-use lib.Pow.{pow-add, pow-lt, shl_exact, shl-shr}
+use native.Mathlib.Nat.{mul-mod_left, div-eq_of_lt, zero-div}
+use lib.Bits.{xor_shr, xor_mod, xor_zero_r}
+use lib.Pow.{pow-lt, shl-shr}
 use Rattle.rules.specs.Memory.{upd, each}
 use Rattle.rules.proofs.Store.{upd_same, upd_other}
 use Rattle.turns.specs.BitView.{bits}

@@ -5,6 +5,8 @@ use Rattle.rules.specs.Memory.{pick, upd}
 use Rattle.rules.specs.Tally.{Tally}
 use Rattle.rules.proofs.Views.{column}
 use Rattle.rules.proofs.Turned.{Told, one_if, counted}
+use Rattle.turns.specs.declared.made.Went.{Went}
+use Rattle.turns.specs.declared.made.Went.TheVariants.{Spun, Idled, Over, On}
 
 -- passages done, remote references, the most in a passage, those of the passage begun last, spins, idle turns
 abbrev pub numbers : ℕ
@@ -48,8 +50,12 @@ farther at row =
     let here : ℕ = get_or row (at + 3) 0 + 1 in
     set (set (one_more (at + 1) row) (at + 2) (max (get_or row (at + 2) 0) here)) (at + 3) here
 
-abbrev pub by_kind : Bool → Bool → Bool → ℕ → List ℕ → List ℕ
-by_kind spin idle done at row = pick spin (one_more (at + 4) row) (pick idle (one_more (at + 5) row) (pick done (one_more at row) row))
+-- what else a turn is counted as
+abbrev pub by_went : Went → ℕ → List ℕ → List ℕ
+by_went Spun at row = one_more (at + 4) row
+by_went Idled at row = one_more (at + 5) row
+by_went Over at row = one_more at row
+by_went On at row = row
 
 -- these numbers are written into the row from n on, and r is the place after them
 pub record Noted (before : List ℕ) (n : ℕ) (es : List ℕ) (after : List ℕ) (r : ℕ) : Type 0 where

@@ -1,15 +1,18 @@
 -- What the code's structs stand for in the rules.
-use Rattle.std.specs.Prelude.{ℕ, ◌+◌, ◌-◌, ◌*◌, ◌%◌, ◌<◌, ◌≡◌, false, ◌&&◌, List, [], ◌∷◌, eqb, ltb}
+use Rattle.std.specs.Prelude.{ℕ, ◌+◌, ◌-◌, ◌%◌, ◌<◌, ◌≡◌, Bool, true, false, ◌&&◌, List, [], map, eqb, ltb}
 use Rattle.rules.specs.Memory.{pick, upd}
-use Rattle.rules.specs.Settings.{Settings, entry}
-use Rattle.rules.specs.Step.{Machine}
+use Rattle.rules.specs.Step.{said, code}
 use Rattle.rules.specs.Course as course
 use Rattle.rules.proofs.Views.{view}
-use Rattle.rules.proofs.Turned.{Told, Turned}
+use Rattle.rules.proofs.Turned.{Told}
 use Rattle.turns.specs.declared.course.Course.{Course}
 use Rattle.turns.specs.declared.course.Due.{Due}
 use Rattle.turns.specs.declared.course.Due.TheVariants.{Hold, Idle, Step}
 use Rattle.turns.specs.declared.made.Made.{Made}
+use Rattle.turns.specs.declared.made.Went.{Went}
+use Rattle.turns.specs.declared.made.Went.TheVariants.{Spun, Idled, Over, On}
+use Rattle.turns.specs.declared.says.Says.{Says}
+use Rattle.turns.specs.Saying.{says_of}
 
 -- what is added to a step in the code's row where hold turns come first; the row beside it has how many follow the next one
 abbrev pub holds : ℕ
@@ -33,9 +36,9 @@ held c i = record { at = c.at; left = upd c.left i (c.left i - 1); done = c.done
 abbrev pub gone_to : course.Course → ℕ → ℕ → ℕ → course.Course
 gone_to c i k hold = record { at = upd c.at i k; left = upd c.left i hold; done = c.done }
 
--- its passage is done, and this many hold turns follow
-abbrev pub ended : course.Course → ℕ → ℕ → course.Course
-ended c i hold = record { at = upd c.at i 1; left = upd c.left i hold; done = upd c.done i (c.done i + 1) }
+-- one passage more of processor i is done
+abbrev pub ended : course.Course → ℕ → course.Course
+ended c i = record { at = c.at; left = c.left; done = upd c.done i (c.done i + 1) }
 
 -- what processor i's next turn is, of this many rounds
 abbrev pub Dues : course.Course → ℕ → ℕ → Due → Type 0
@@ -43,29 +46,39 @@ Dues c i rounds Hold = 0 < c.left i
 Dues c i rounds Idle = (c.left i ≡ 0) × (c.at i ≡ 1) × (c.done i ≡ rounds)
 Dues c i rounds (Step k) = (c.left i ≡ 0) × (c.at i ≡ k) × ((eqb k 1 && eqb (c.done i) rounds) ≡ false)
 
--- an event of processor w as a number of the row
-abbrev pub code_of : ℕ → ℕ → ℕ
-code_of w kind = kind * 256 + w
+-- ---- what is told of processor w's turn
 
--- what is told of processor w's turn
+abbrev pub is_spun : Went → Bool
+is_spun Spun = true
+is_spun Idled = false
+is_spun Over = false
+is_spun On = false
+
+abbrev pub is_idled : Went → Bool
+is_idled Spun = false
+is_idled Idled = true
+is_idled Over = false
+is_idled On = false
+
+abbrev pub is_over : Went → Bool
+is_over Spun = false
+is_over Idled = false
+is_over Over = true
+is_over On = false
+
+abbrev pub codes_of : ℕ → Says → List ℕ
+codes_of w says = map code (said w (says_of says))
+
 abbrev pub told_of : ℕ → Made → Told
 told_of w m = record {
   far = pick (eqb m.owner w) 0 1;
-  codes = pick (eqb m.first 0) [] (code_of w m.first ∷ pick (eqb m.second 0) [] (code_of w m.second ∷ []));
+  codes = codes_of w m.says;
   began = m.began;
-  done = m.done;
-  spin = m.spin;
-  idle = m.idle;
+  done = is_over m.went;
+  spin = is_spun m.went;
+  idle = is_idled m.went;
 }
 
--- ---- a machine's first state, and one turn of it
-
--- x and c are the first of every settings record that has P
-pub record Starts (m : Machine) (P : Settings → Type 0) (x : m.State) (c : course.Course) : Type 0 where
-  pub memory : (s : Settings) → P s → x ≡ m.start s
-  pub outset : c ≡ course.outset
-
--- processor w's turn leads from x and c to x' and c', and d is told of it: for every settings record that has P and gives w these rounds and this hold
-pub record Turns (m : Machine) (P : Settings → Type 0) (w rounds hold : ℕ) (x : m.State) (c : course.Course) (x' : m.State) (c' : course.Course) (d : Told)
-    : Type 0 where
-  pub turned : (s : Settings) → P s → entry s.rounds w ≡ rounds → entry s.hold w ≡ hold → Turned m s x c w x' c' d
+-- nothing is told of a turn without an access, but whether it is idle
+abbrev pub untold : Bool → Told
+untold idle = record { far = 0; codes = []; began = false; done = false; spin = false; idle = idle }

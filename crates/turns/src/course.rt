@@ -1,6 +1,6 @@
 // The course of each processor through its passages, hold turns and idle turns, once for all machines.
-ghost use Rattle.std.specs.Prelude.{◌≡◌, ◌<◌, ◌≤◌, ◌+◌, ◌-◌, eqb, get_or};
-ghost use Rattle.rules.specs.Memory.{pick, upd};
+ghost use Rattle.std.specs.Prelude.{◌≡◌, ◌<◌, ◌+◌, ◌-◌, eqb};
+ghost use Rattle.rules.specs.Memory.{pick};
 ghost use Rattle.rules.specs.Course.{outset};
 ghost use Rattle.turns.specs.View.{course_of, holds, held, gone_to, ended, Dues};
 
@@ -23,12 +23,6 @@ pub enum Due {
 }
 
 const HOLDS: u8 = 128;
-
-fn one_less(n: u8) -> u8
-    ensures { result ≡ n - 1 }
-{
-    if n == 0 { 0 } else { n - 1 }
-}
 
 // The step as it stands in the row, with this many hold turns before it.
 fn after_hold(step: u8, hold: u8) -> u8
@@ -71,88 +65,39 @@ impl Course {
 
     // After a hold turn of processor i.
     pub fn held(self, i: usize) -> Course
-        requires { (i < 64) × (holds ≤ get_or self.at i 0) }
+        requires in_rows { i < 64 }
+        requires left { 0 < (course_of self).left i }
         ensures { course_of result ≡ held (course_of self) i }
     {
-        let done = self.done;
+        let mut at = self.at;
         let mut left = self.left;
         let more = left[i];
-        left[i] = one_less(more);
-        let mut at = self.at;
         at[i] = after_hold(at[i] % HOLDS, more);
-        Course {
-            done,
-            gap: 0,
-            at,
-            left,
-        }
+        left[i] = more.saturating_sub(1);
+        Course { at, left, ..self }
     }
 
-    // Processor i goes to this step.
-    pub fn goes(self, i: usize, step: u8) -> Course
-        requires { (i < 64) × (step < holds) }
-        ensures { course_of result ≡ gone_to (course_of self) i step 0 }
-    {
-        let done = self.done;
-        let mut at = self.at;
-        at[i] = step;
-        let left = self.left;
-        Course {
-            done,
-            gap: 0,
-            at,
-            left,
-        }
-    }
-
-    // Processor i is granted the lock: it goes to this step, after its hold turns.
-    pub fn granted(self, i: usize, step: u8, hold: u8) -> Course
-        requires { (i < 64) × (step < holds) }
+    // Processor i goes to this step, after its hold turns.
+    pub fn goes(self, i: usize, step: u8, hold: u8) -> Course
+        requires in_rows { i < 64 }
+        requires step { step < holds }
         ensures { course_of result ≡ gone_to (course_of self) i step hold }
     {
-        let done = self.done;
         let mut at = self.at;
-        at[i] = after_hold(step, hold);
         let mut left = self.left;
-        left[i] = one_less(hold);
-        Course {
-            done,
-            gap: 0,
-            at,
-            left,
-        }
+        at[i] = after_hold(step, hold);
+        left[i] = hold.saturating_sub(1);
+        Course { at, left, ..self }
     }
 
     // One passage more of processor i is done.
-    fn ends(self, i: usize) -> Course
-        requires { (i < 64) × ((course_of self).done i < 65535) }
-        ensures { course_of result ≡ record { at = (course_of self).at; left = (course_of self).left; done = upd (course_of self).done i ((course_of self).done i + 1) } }
+    pub fn ends(self, i: usize) -> Course
+        requires in_rows { i < 64 }
+        requires few { (course_of self).done i < 65535 }
+        ensures { course_of result ≡ ended (course_of self) i }
     {
         let mut done = self.done;
-        done[i] = done[i] + 1;
-        let at = self.at;
-        let left = self.left;
-        Course {
-            done,
-            gap: 0,
-            at,
-            left,
-        }
-    }
-
-    // Processor i's passage is done.
-    pub fn over(self, i: usize) -> Course
-        requires { (i < 64) × ((course_of self).done i < 65535) }
-        ensures { course_of result ≡ ended (course_of self) i 0 }
-    {
-        self.ends(i).goes(i, 1)
-    }
-
-    // Processor i leaves the barrier: its passage is done, and its hold turns follow.
-    pub fn leaves(self, i: usize, hold: u8) -> Course
-        requires { (i < 64) × ((course_of self).done i < 65535) }
-        ensures { course_of result ≡ ended (course_of self) i hold }
-    {
-        self.ends(i).granted(i, 1, hold)
+        done[i] += 1;
+        Course { done, ..self }
     }
 }

@@ -1,14 +1,20 @@
-// What every machine's turn and run are made of: the course of a processor, what a turn tells, and how it is counted.
+// What every machine's turn and run are made of: the course of a processor, what a turn tells, how it is counted, and the run over a schedule.
 #![tactic(auto)]
 
 mod bits;
 mod counts;
 mod course;
-pub mod made;
+mod machine;
+mod made;
 mod played;
+mod playing;
+mod says;
+mod step;
 
 pub use bits::{bit, with_bit};
-pub use counts::{far_of, tell};
-pub use course::{Course, Due};
-pub use made::Made;
-pub use played::{End, Played};
+pub use course::Course;
+pub use machine::{Machine, State};
+pub use played::{Played, Stop};
+pub use playing::play;
+pub use says::{Kind, Says};
+pub use step::Step;

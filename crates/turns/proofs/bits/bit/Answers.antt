@@ -1,5 +1,5 @@
 -- `turns::bits::bit` meets its contract.
-use borrow.Author.Rules.{rules}
+use Rattle.std.proofs.Common.{rules}
 use Rattle.turns.specs.BitView.{bits}
 use Rattle.turns.proofs.bits.bit.Goals as goal
 

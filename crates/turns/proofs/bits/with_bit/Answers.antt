@@ -1,7 +1,5 @@
 -- `turns::bits::with_bit` meets its contract.
-use borrow.Author.Rules.{rules}
-use mathlib.Core.Path.{sym, ◌∙◌}
-use native.Mathlib.Omega.{arith}
+use Rattle.std.proofs.Common.{rules, sym, ◌∙◌, arith}
 use Rattle.turns.proofs.Words.{bit_kept, bit_changed}
 use Rattle.turns.proofs.bits.with_bit.Goals as goal
 

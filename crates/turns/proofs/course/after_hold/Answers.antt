@@ -1,6 +1,5 @@
 -- `turns::course::after_hold` meets its contract.
-use borrow.Author.Tests.{eq-eqb, ne_eqb}
-use mathlib.Core.Path.{refl}
+use Rattle.std.proofs.Common.{eq-eqb, ne_eqb, refl}
 use Rattle.turns.proofs.course.after_hold.Goals as goal
 
 pub returns-then-hold-eq0 : goal.returns-then-hold-eq0

@@ -1,5 +1,5 @@
 -- `turns::course::Course::due` meets its contract.
-use borrow.Author.Rules.{rules}
+use Rattle.std.proofs.Common.{rules}
 use Rattle.turns.proofs.Courses.{due_hold, due_idle, due_first, due_step}
 use Rattle.turns.proofs.course.Course.due.Goals as goal
 

@@ -1,6 +1,5 @@
 -- `turns::course::Course::ends` meets its contract.
-use borrow.Author.Rules.{rules}
-use mathlib.Core.Path.{refl}
+use Rattle.std.proofs.Common.{rules, refl}
 use Rattle.rules.proofs.Views.{view, view_put, view_at}
 use Rattle.turns.proofs.Courses.{Rows, same_course}
 use Rattle.turns.proofs.course.Course.ends.Goals as goal

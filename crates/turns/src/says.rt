@@ -1,0 +1,50 @@
+// What a turn says.
+ghost use Rattle.std.specs.Prelude.{◌≡◌, ◌+◌, ◌*◌};
+ghost use Rattle.rules.specs.Step.{number};
+ghost use Rattle.rules.specs.Course.{begins, holding};
+ghost use Rattle.turns.specs.Saying.{kind_of, says_of};
+
+// The kinds of events, with their numbers.
+#[derive(Clone, Copy, Debug, PartialEq, Eq)]
+pub enum Kind {
+    Join = 1,
+    Grant = 2,
+    Release = 3,
+    Arrive = 4,
+    Leave = 5,
+}
+
+// Nothing, one event, or two in this order.
+#[derive(Clone, Copy, Debug, PartialEq, Eq)]
+pub enum Says {
+    Nothing,
+    One(Kind),
+    Two(Kind, Kind),
+}
+
+impl Kind {
+    pub fn number(self) -> u16
+        ensures { result ≡ number (kind_of self) }
+    {
+        self as u16
+    }
+
+    // Hold turns follow the grant of a lock and the leaving of a barrier.
+    fn begins(self) -> bool
+        ensures { result ≡ begins (kind_of self) }
+    {
+        matches!(self, Kind::Grant | Kind::Leave)
+    }
+}
+
+impl Says {
+    pub fn holds(self) -> bool
+        ensures { result ≡ holding (says_of self) }
+    {
+        match self {
+            Says::Nothing => false,
+            Says::One(k) => k.begins(),
+            Says::Two(k, l) => k.begins() || l.begins(),
+        }
+    }
+}
