@@ -83,11 +83,11 @@ unfolding view
 returns-then-n-ne0-clause-sound c =
     rw (c.to-then-n-ne0.ensures.memory, c.with_succ.ensures) (sound_succ c.requires.sound _ (omega (arith, c.requires.sound.next c.args.step.w, c.if-n-ne0.true)))
 
-pub returns-then-at-eq7-clause-stepped : goal.returns-then-at-eq7-clause-stepped
+pub returns-then-step-eq7-clause-stepped : goal.returns-then-step-eq7-clause-stepped
 unfolding step remote view
-returns-then-at-eq7-clause-stepped c =
-    stepped (looks 0 (memory_of c.args.self) c.args.step.w) c.args.step.w (rw c.if-at-eq7.true (ap (λ n. looks n (memory_of c.args.self) c.args.step.w) c.if-n-ne0.false))
-    (ap memory_of c.to-then-at-eq7.ensures.memory) refl c.requires.asked.hold c.to-then-at-eq7.ensures.course c.to-then-at-eq7.ensures.tells
+returns-then-step-eq7-clause-stepped c =
+    stepped (looks 0 (memory_of c.args.self) c.args.step.w) c.args.step.w (rw c.if-step-eq7.true (ap (λ n. looks n (memory_of c.args.self) c.args.step.w) c.if-n-ne0.false))
+    (ap memory_of c.to-then-step-eq7.ensures.memory) refl c.requires.asked.hold c.to-then-step-eq7.ensures.course c.to-then-step-eq7.ensures.tells
 
 pub returns-in-7-clause-stepped : goal.returns-in-7-clause-stepped
 unfolding step remote view
