@@ -1,1 +1,1 @@
-pub mod CentralTurns
+pub mod CentralStates

@@ -75,10 +75,9 @@ impl Machine for Central {
     }
 
     fn step(self, step: Step, s: &Settings) -> State<Central> {
-        let w = step.w;
-        let at = step.at;
-        let i = w as usize;
-        match at {
+        let i = step.w as usize;
+        // Every arm returns: the state is then copied nowhere.
+        match step.at {
             1 => {
                 let next = if self.count == 1 { 2 } else { 4 };
                 return step.to(self.counts(i), s.home, Says::One(Kind::Arrive), next);

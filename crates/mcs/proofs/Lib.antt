@@ -1,1 +1,1 @@
-pub mod McsTurns
+pub mod McsStates

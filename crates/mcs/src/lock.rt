@@ -6,8 +6,8 @@ ghost use Rattle.mcs.specs.McsView.{memory_of, Sound};
 use settings::Settings;
 use turns::{Kind, Machine, Says, State, Step};
 
-// Each processor's next and locked, and what it keeps for itself. In next, nil is 0 and processor q is q + 1; in locked, true is 1.
-// tail is nil or a processor, as in next.
+// tail, each processor's next and locked, and what it keeps for itself: pred and succ. The state is copied at every turn, so it is packed:
+// in tail and next, nil is 0 and processor q is q + 1; in locked, true is 1.
 #[derive(Clone, Copy)]
 pub struct Mcs {
     tail: u16,
@@ -81,9 +81,9 @@ impl Machine for Mcs {
 
     fn step(self, step: Step, s: &Settings) -> State<Mcs> {
         let w = step.w;
-        let at = step.at;
         let i = w as usize;
-        match at {
+        // Every arm returns: the state is then copied nowhere.
+        match step.at {
             1 => {
                 return step.to(self.with_next(i, 0), w, Says::Nothing, 2);
             }
@@ -130,7 +130,7 @@ impl Machine for Mcs {
                 if n != 0 {
                     return step.to(self.with_succ(i, n - 1), w, Says::Nothing, 10);
                 }
-                if at == 7 {
+                if step.at == 7 {
                     return step.to(self, w, Says::Nothing, 8);
                 }
                 return step.stay(self, w);

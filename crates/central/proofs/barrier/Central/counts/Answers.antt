@@ -1,9 +1,8 @@
--- `central::barrier::Gate::counts` meets its contract.
-use borrow.Author.Rules.{rules}
-use mathlib.Core.Path.{refl}
+-- `central::barrier::Central::counts` meets its contract.
+use Rattle.std.proofs.Common.{refl, rules}
 use Rattle.rules.proofs.Views.{Place, view_put, view_at}
-use Rattle.central.proofs.CentralTurns.{same_state}
-use Rattle.central.proofs.barrier.Gate.counts.Goals as goal
+use Rattle.central.proofs.CentralStates.{same_state}
+use Rattle.central.proofs.barrier.Central.counts.Goals as goal
 
 pub returns : goal.returns
 returns c =

@@ -1,9 +1,8 @@
--- `central::barrier::Gate::opens` meets its contract.
-use borrow.Author.Rules.{rules}
-use mathlib.Core.Path.{refl, sym}
+-- `central::barrier::Central::opens` meets its contract.
+use Rattle.std.proofs.Common.{refl, sym, rules}
 use Rattle.rules.proofs.Views.{Place, view_at}
-use Rattle.central.proofs.CentralTurns.{same_state}
-use Rattle.central.proofs.barrier.Gate.opens.Goals as goal
+use Rattle.central.proofs.CentralStates.{same_state}
+use Rattle.central.proofs.barrier.Central.opens.Goals as goal
 
 pub returns : goal.returns
 returns c =

@@ -1,9 +1,8 @@
--- `central::barrier::Central::start` meets its contract.
-use mathlib.Core.Path.{refl, sym}
+-- The central barrier's `start` meets its contract.
+use Rattle.std.proofs.Common.{refl}
 use Rattle.rules.proofs.Views.{view_blank}
-use Rattle.central.proofs.CentralTurns.{same_state}
-use Rattle.central.proofs.barrier.Central.start.Goals as goal
+use Rattle.central.proofs.CentralStates.{same_state}
+use Rattle.central.proofs.barrier.CentralMachine.start.Goals as goal
 
-pub returns : goal.returns
-returns c =
-    record { memory = λ s p. same_state _ _ (sym p) refl (view_blank 64 1); outset = c.start.ensures }
+pub returns-clause-memory : goal.returns-clause-memory
+returns-clause-memory c = same_state _ _ refl refl (view_blank 64 1)

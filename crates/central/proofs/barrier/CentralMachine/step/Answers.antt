@@ -1,49 +1,48 @@
--- `central::barrier::Central::turn` meets its contract: each return is one way that a turn goes.
-use borrow.Author.Rules.{rules}
-use mathlib.Core.Path.{refl, ap}
-use Rattle.rules.specs.Central.{machine}
+-- The central barrier's `step` meets its contract: each return is one of the rules' steps.
+use Rattle.std.proofs.Common.{true, false, ◌≡◌, eqb, refl, ap, ◌∙◌, eq-eqb, ne_eqb, rules}
+use Rattle.rules.specs.Memory.{pick}
+use Rattle.rules.specs.Step.{remote, to}
+use Rattle.rules.specs.Central.{counts, resets, opens, waits, step}
 use Rattle.rules.proofs.Views.{Place, view_at}
-use Rattle.turns.specs.View.{told_of, course_of}
-use Rattle.turns.proofs.Courses.{held_some}
-use Rattle.turns.proofs.Turning.{turns_hold, turns_idle, told_none}
-use Rattle.central.proofs.CentralTurns.{central_last, central_early, central_resets, central_opens, central_leaves, central_spins}
-use Rattle.central.proofs.barrier.Central.turn.Goals as goal
+use Rattle.settings.specs.View.{settings_of}
+use Rattle.turns.proofs.Turning.{stepped}
+use Rattle.central.specs.CentralView.{memory_of}
+use Rattle.central.proofs.barrier.CentralMachine.step.Goals as goal
+use Rattle.central.proofs.barrier.CentralMachine.step.Goals.{then-self-eq1, else-self-eq1}
 
-pub held-requires : goal.held-requires
-held-requires c =
-    let k = course_of c.args.self.course in
-    (search rules, held_some c.args.self.course.at c.args.self.course.left k.at k.done _ _ c.due-due.result c.due-due.ensures c.in-Hold.is)
+pub returns-in-1-clause-stepped : goal.returns-in-1-clause-stepped
+unfolding step remote
+returns-in-1-clause-stepped c =
+    let next : c.if-self-eq1.next ≡ pick (eqb c.args.self.count 1) 2 4 =
+    elim c.if-self-eq1.branch [ then-self-eq1 w ↦ rw (w.next-is, eq-eqb _ _ w.if-self-eq1.true) refl | else-self-eq1 w ↦ rw (w.next-is, ne_eqb _ _ w.if-self-eq1.false) refl ] in
+    let did = counts (settings_of c.args.s.now) (memory_of c.args.self) c.args.step.w in
+    stepped (record { memory = did.memory; access = did.access; says = did.says; then = to c.if-self-eq1.next }) c.args.s.now.home (rw (c.in-1.is, next) refl)
+    (ap memory_of c.to.ensures.memory ∙ c.counts.ensures) refl c.requires.asked.hold c.to.ensures.course c.to.ensures.tells
 
-pub returns-in-Hold : goal.returns-in-Hold
-returns-in-Hold c =
-    turns_hold machine _ _ _ _ _ _ c.due-due.result c.due-due.ensures _ _ _ (search rules) refl c.held.ensures (told_none _ _ _ c.none.ensures)
+pub returns-in-2-clause-stepped : goal.returns-in-2-clause-stepped
+unfolding step remote
+returns-in-2-clause-stepped c =
+    stepped (resets (settings_of c.args.s.now) (memory_of c.args.self)) c.args.s.now.home (rw c.in-2.is refl)
+    (ap memory_of c.to-in-2.ensures.memory ∙ c.resets.ensures) refl c.requires.asked.hold c.to-in-2.ensures.course c.to-in-2.ensures.tells
 
-pub returns-in-Idle : goal.returns-in-Idle
-returns-in-Idle c =
-    turns_idle machine _ _ _ _ _ _ c.due-due.result c.due-due.ensures _ _ _ (search rules) refl refl (told_none _ _ _ c.none-in-Idle.ensures)
+pub returns-in-3-clause-stepped : goal.returns-in-3-clause-stepped
+unfolding step remote
+returns-in-3-clause-stepped c =
+    stepped (opens (settings_of c.args.s.now) (memory_of c.args.self) c.args.step.w) c.args.s.now.home (rw c.in-3.is refl)
+    (ap memory_of c.over.ensures.memory ∙ c.opens.ensures) refl c.requires.asked.hold c.over.ensures.course c.over.ensures.tells
 
-pub returns-then-gate-eq1 : goal.returns-then-gate-eq1
-returns-then-gate-eq1 c =
-    central_last _ _ _ _ _ _ _ c.due-due.result c.due-due.ensures c.in-Step.step c.in-Step.is _ _ _ (search rules) (search rules) (search rules) (search rules) (ap (told_of _) c.first.ensures)
+pub returns-then-self-local-clause-stepped : goal.returns-then-self-local-clause-stepped
+unfolding step remote
+returns-then-self-local-clause-stepped c =
+    let p : Place c.args.self.local c.args.step.w = search rules in
+    stepped (waits true (settings_of c.args.s.now) (memory_of c.args.self)) c.args.s.now.home
+    (rw (ne_eqb c.args.step.at 1 (search rules), ne_eqb c.args.step.at 2 (search rules), ne_eqb c.args.step.at 3 (search rules), view_at 1 p, eq-eqb _ _ c.if-self-local.true) refl)
+    (ap memory_of c.over-then-self-local.ensures.memory) refl c.requires.asked.hold c.over-then-self-local.ensures.course c.over-then-self-local.ensures.tells
 
-pub returns-in-1 : goal.returns-in-1
-returns-in-1 c =
-    central_early _ _ _ _ _ _ _ c.due-due.result c.due-due.ensures c.in-Step.step c.in-Step.is _ _ _ (search rules) (search rules) (search rules) (search rules) (ap (told_of _) c.first-in-1.ensures)
-
-pub returns-in-2 : goal.returns-in-2
-returns-in-2 c =
-    central_resets _ _ _ _ _ _ _ c.due-due.result c.due-due.ensures c.in-Step.step c.in-Step.is _ _ _ (search rules) (search rules) (search rules) (ap (told_of _) c.later.ensures)
-
-pub returns-in-3 : goal.returns-in-3
-returns-in-3 c =
-    central_opens _ _ _ _ _ _ _ c.due-due.result c.due-due.ensures c.in-Step.step c.in-Step.is _ _ _ (search rules) (search rules) (search rules) (ap (told_of _) c.last.ensures)
-
-pub returns-then-gate-local : goal.returns-then-gate-local
-returns-then-gate-local c =
-    let p : Place c.args.self.gate.local c.args.w = search rules in
-    central_leaves _ _ _ _ _ _ _ c.due-due.result c.due-due.ensures c.in-Step.step c.in-Step.is _ _ _ (search rules) (search rules) (search rules) (rw (view_at 1 p) (search rules)) refl (search rules) (ap (told_of _) c.last-then-gate-local.ensures)
-
-pub returns-in_default : goal.returns-in_default
-returns-in_default c =
-    let p : Place c.args.self.gate.local c.args.w = search rules in
-    central_spins _ _ _ _ _ _ _ c.due-due.result c.due-due.ensures c.in-Step.step c.in-Step.is _ _ _ (search rules) (search rules) (search rules) (rw (view_at 1 p) (search rules)) refl refl (ap (told_of _) c.spin.ensures)
+pub returns-in_default-clause-stepped : goal.returns-in_default-clause-stepped
+unfolding step remote
+returns-in_default-clause-stepped c =
+    let p : Place c.args.self.local c.args.step.w = search rules in
+    stepped (waits false (settings_of c.args.s.now) (memory_of c.args.self)) c.args.s.now.home
+    (rw (ne_eqb c.args.step.at 1 (search rules), ne_eqb c.args.step.at 2 (search rules), ne_eqb c.args.step.at 3 (search rules), view_at 1 p, ne_eqb _ _ c.if-self-local.false) refl)
+    (ap memory_of c.stay.ensures.memory) refl c.requires.asked.hold c.stay.ensures.course c.stay.ensures.tells

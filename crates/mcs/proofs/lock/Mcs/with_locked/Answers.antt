@@ -1,11 +1,10 @@
--- `mcs::lock::Nodes::with_locked` meets its contract.
-use borrow.Author.Rules.{rules}
-use mathlib.Core.Path.{refl}
+-- `mcs::lock::Mcs::with_locked` meets its contract.
+use Rattle.std.proofs.Common.{refl, rules}
 use Rattle.rules.proofs.Views.{Place, view_put}
-use Rattle.mcs.proofs.McsTurns.{same_state}
-use Rattle.mcs.proofs.lock.Nodes.with_locked.Goals as goal
+use Rattle.mcs.proofs.McsStates.{same_state}
+use Rattle.mcs.proofs.lock.Mcs.with_locked.Goals as goal
 
 pub returns : goal.returns
 returns c =
     let p : Place c.args.self.locked c.args.q = search rules in
-    λ tail. same_state _ _ refl refl (view_put 0 p refl) refl refl
+    same_state _ _ refl refl (view_put 0 p refl) refl refl

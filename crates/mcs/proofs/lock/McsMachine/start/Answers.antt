@@ -1,11 +1,11 @@
--- `mcs::lock::Mcs::start` meets its contract.
-use mathlib.Core.Path.{refl}
+-- The MCS lock's `start` meets its contract.
+use Rattle.std.proofs.Common.{refl}
 use Rattle.rules.proofs.Views.{view_blank}
-use Rattle.mcs.proofs.McsTurns.{same_state, sound_blank}
-use Rattle.mcs.proofs.lock.Mcs.start.Goals as goal
+use Rattle.mcs.proofs.McsStates.{same_state, sound_blank}
+use Rattle.mcs.proofs.lock.McsMachine.start.Goals as goal
 
-pub returns : goal.returns
-returns c = (
-  record { memory = λ s p. same_state _ _ refl (view_blank 64 0) (view_blank 64 0) (view_blank 64 0) (view_blank 64 0); outset = c.start.ensures },
-  sound_blank _ refl (view_blank 64 0) (view_blank 64 0) (view_blank 64 0),
-)
+pub returns-clause-memory : goal.returns-clause-memory
+returns-clause-memory c = same_state _ _ refl (view_blank 64 0) (view_blank 64 0) (view_blank 64 0) (view_blank 64 0)
+
+pub returns-clause-sound : goal.returns-clause-sound
+returns-clause-sound c = sound_blank refl (view_blank 64 0) (view_blank 64 0) (view_blank 64 0)

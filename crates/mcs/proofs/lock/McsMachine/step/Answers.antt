@@ -1,104 +1,119 @@
--- `mcs::lock::Mcs::turn` meets its contract: each return is one way that a turn goes.
-use borrow.Author.Rules.{rules}
-use mathlib.Core.Logic.{inl, inr}
-use mathlib.Core.Path.{refl, ap}
-use native.Mathlib.Omega.{arith}
-use Rattle.rules.specs.Mcs.{machine}
+-- The MCS lock's `step` meets its contract: each return is one of the rules' steps, and leaves a sound state.
+use Rattle.std.proofs.Common.{true, false, suc, ◌-◌, ◌≡◌, inl, inr, refl, sym, ap, add-one, ◌∙◌, eq-eqb, ne_eqb, rules, arith}
+use Rattle.rules.specs.Step.{remote}
+use Rattle.rules.specs.Mcs.{set_tail, clears, swaps, locks, links, waits, looks, drains, rereads, wakes, step}
 use Rattle.rules.proofs.Views.{view}
-use Rattle.turns.specs.View.{course_of, told_of}
-use Rattle.turns.proofs.Courses.{held_some}
-use Rattle.turns.proofs.Turning.{turns_hold, turns_idle, told_none}
-use Rattle.mcs.proofs.McsTurns.{here, mcs_clears, mcs_takes, mcs_joins, mcs_locks, mcs_links, mcs_granted, mcs_spins, mcs_alone, mcs_finds, mcs_drains, mcs_fails, mcs_rereads, mcs_wakes}
-use Rattle.mcs.proofs.lock.Mcs.turn.Goals as goal
+use Rattle.settings.specs.View.{settings_of}
+use Rattle.turns.proofs.Turning.{stepped}
+use Rattle.mcs.specs.McsView.{memory_of, Sound}
+use Rattle.mcs.proofs.McsStates.{sound_tail, sound_next, sound_pred, sound_succ}
+use Rattle.mcs.proofs.lock.McsMachine.step.Goals as goal
 
-pub held-requires : goal.held-requires
-held-requires c =
-    let k = course_of c.args.self.course in
-    (search rules, held_some c.args.self.course.at c.args.self.course.left k.at k.done _ _ c.due-due.result c.due-due.ensures c.in-Hold.is)
+pub returns-in-1-clause-stepped : goal.returns-in-1-clause-stepped
+unfolding step remote
+returns-in-1-clause-stepped c =
+    stepped (clears (memory_of c.args.self) c.args.step.w) c.args.step.w (rw c.in-1.is refl)
+    (ap memory_of c.to.ensures.memory ∙ c.with_next.ensures) refl c.requires.asked.hold c.to.ensures.course c.to.ensures.tells
 
-pub returns-in-Hold : goal.returns-in-Hold
-returns-in-Hold c =
-    (turns_hold machine _ _ _ _ _ _ c.due-due.result c.due-due.ensures _ _ _ (search rules) refl c.held.ensures (told_none _ _ _ c.none.ensures), c.requires.2)
+pub returns-in-1-clause-sound : goal.returns-in-1-clause-sound
+returns-in-1-clause-sound c =
+    rw (c.to.ensures.memory, c.with_next.ensures) (sound_next c.requires.sound _ (omega arith))
 
-pub returns-in-Idle : goal.returns-in-Idle
-returns-in-Idle c =
-    (turns_idle machine _ _ _ _ _ _ c.due-due.result c.due-due.ensures _ _ _ (search rules) refl refl (told_none _ _ _ c.none-in-Idle.ensures), c.requires.2)
+pub returns-then-self-eq0-clause-stepped : goal.returns-then-self-eq0-clause-stepped
+unfolding step remote
+returns-then-self-eq0-clause-stepped c =
+    stepped (swaps 0 (settings_of c.args.s.now) (memory_of c.args.self) c.args.step.w) c.args.s.now.home (rw c.in-2.is (ap (λ n. swaps n (settings_of c.args.s.now) (memory_of c.args.self) c.args.step.w) c.if-self-eq0.true))
+    (ap memory_of c.to-then-self-eq0.ensures.memory ∙ rw (add-one c.args.step.w) at c.with_tail.ensures) refl c.requires.asked.hold c.to-then-self-eq0.ensures.course c.to-then-self-eq0.ensures.tells
 
-pub returns-in-1 : goal.returns-in-1
-returns-in-1 c =
-    mcs_clears (here c.requires.0 c.requires.2 c.due-due.ensures c.in-Step.is) _ _ _ _ _ c.in-1.is (c.with_next.ensures _) c.goes.ensures (ap (told_of _) c.first.ensures)
+pub returns-in-2-clause-stepped : goal.returns-in-2-clause-stepped
+unfolding step remote
+returns-in-2-clause-stepped c =
+    let q : c.args.self.tail ≡ suc (c.args.self.tail - 1) = omega (arith, c.if-self-eq0.false) in
+    stepped (swaps (suc (c.args.self.tail - 1)) (settings_of c.args.s.now) (memory_of c.args.self) c.args.step.w) c.args.s.now.home (rw c.in-2.is (ap (λ n. swaps n (settings_of c.args.s.now) (memory_of c.args.self) c.args.step.w) q))
+    (ap memory_of c.to-in-2.ensures.memory ∙ rw (add-one c.args.step.w) at c.with_tail-in-2.ensures ∙ ap (set_tail (suc c.args.step.w)) c.with_pred.ensures) refl c.requires.asked.hold c.to-in-2.ensures.course c.to-in-2.ensures.tells
 
-pub returns-then-tail-eq0 : goal.returns-then-tail-eq0
-returns-then-tail-eq0 c =
-    mcs_takes (here c.requires.0 c.requires.2 c.due-due.ensures c.in-Step.is) _ _ _ _ _ c.in-2.is c.if-tail-eq0.true refl c.granted.ensures (ap (told_of _) c.later.ensures)
+pub returns-in-2-clause-sound : goal.returns-in-2-clause-sound
+returns-in-2-clause-sound c =
+    let p : Sound (memory_of c.with_pred.result) =
+    rw c.with_pred.ensures (sound_pred c.requires.sound _ (omega (arith, c.requires.sound.tail))) in
+    rw (c.to-in-2.ensures.memory, c.with_tail-in-2.ensures) (sound_tail p (omega (arith, c.requires.asked.below, c.requires.asked.procs)))
 
-pub returns-in-2 : goal.returns-in-2
-returns-in-2 c =
-    mcs_joins (here c.requires.0 c.requires.2 c.due-due.ensures c.in-Step.is) _ _ _ _ _ c.in-2.is c.if-tail-eq0.false (c.with_pred.ensures _) c.goes-in-2.ensures (ap (told_of _) c.later-in-2.ensures)
-
-pub returns-in-3 : goal.returns-in-3
-returns-in-3 c =
-    mcs_locks (here c.requires.0 c.requires.2 c.due-due.ensures c.in-Step.is) _ _ _ _ _ c.in-3.is (c.with_locked.ensures _) c.goes-in-3.ensures (ap (told_of _) c.later-in-3.ensures)
+pub returns-in-3-clause-stepped : goal.returns-in-3-clause-stepped
+unfolding step remote
+returns-in-3-clause-stepped c =
+    stepped (locks (memory_of c.args.self) c.args.step.w) c.args.step.w (rw c.in-3.is refl)
+    (ap memory_of c.to-in-3.ensures.memory ∙ c.with_locked.ensures) refl c.requires.asked.hold c.to-in-3.ensures.course c.to-in-3.ensures.tells
 
 pub with_next-requires-in-4 : goal.with_next-requires-in-4
 unfolding view
-with_next-requires-in-4 c =
-    omega (arith, c.requires.2.pred c.args.w)
+with_next-requires-in-4 c = c.requires.sound.pred c.args.step.w
 
-pub overflow_cast-p-in-4 : goal.overflow_cast-p-in-4
+pub returns-in-4-clause-stepped : goal.returns-in-4-clause-stepped
+unfolding step remote view
+returns-in-4-clause-stepped c =
+    stepped (links (memory_of c.args.self) c.args.step.w) (view 0 c.args.self.pred c.args.step.w) (rw c.in-4.is refl)
+    (ap memory_of c.to-in-4.ensures.memory ∙ rw (add-one c.args.step.w) at c.with_next-in-4.ensures) refl c.requires.asked.hold c.to-in-4.ensures.course c.to-in-4.ensures.tells
+
+pub returns-in-4-clause-sound : goal.returns-in-4-clause-sound
+returns-in-4-clause-sound c =
+    rw (c.to-in-4.ensures.memory, c.with_next-in-4.ensures) (sound_next c.requires.sound _ (omega (arith, c.requires.asked.below, c.requires.asked.procs)))
+
+pub returns-then-locked-i-eq0-clause-stepped : goal.returns-then-locked-i-eq0-clause-stepped
+unfolding step remote view
+returns-then-locked-i-eq0-clause-stepped c =
+    stepped (waits 0 (memory_of c.args.self) c.args.step.w) c.args.step.w (rw c.in-5.is (ap (λ n. waits n (memory_of c.args.self) c.args.step.w) c.if-locked-i-eq0.true))
+    (ap memory_of c.to-then-locked-i-eq0.ensures.memory) refl c.requires.asked.hold c.to-then-locked-i-eq0.ensures.course c.to-then-locked-i-eq0.ensures.tells
+
+pub returns-in-5-clause-stepped : goal.returns-in-5-clause-stepped
+unfolding step remote view
+returns-in-5-clause-stepped c =
+    let q : (view 0 c.args.self.locked c.args.step.w) ≡ suc ((view 0 c.args.self.locked c.args.step.w) - 1) = omega (arith, c.if-locked-i-eq0.false) in
+    stepped (waits (suc ((view 0 c.args.self.locked c.args.step.w) - 1)) (memory_of c.args.self) c.args.step.w) c.args.step.w (rw c.in-5.is (ap (λ n. waits n (memory_of c.args.self) c.args.step.w) q))
+    (ap memory_of c.stay.ensures.memory) refl c.requires.asked.hold c.stay.ensures.course c.stay.ensures.tells
+
+pub returns-then-n-ne0-clause-stepped : goal.returns-then-n-ne0-clause-stepped
+unfolding step remote view
+returns-then-n-ne0-clause-stepped c =
+    let q : (view 0 c.args.self.next c.args.step.w) ≡ suc ((view 0 c.args.self.next c.args.step.w) - 1) = omega (arith, c.if-n-ne0.true) in
+    stepped (looks (suc ((view 0 c.args.self.next c.args.step.w) - 1)) (memory_of c.args.self) c.args.step.w) c.args.step.w (elim c.in-7.is [ inl e ↦ rw e (ap (λ n. looks n (memory_of c.args.self) c.args.step.w) q) | inr e ↦ rw e (ap (λ n. rereads n (memory_of c.args.self) c.args.step.w) q) ])
+    (ap memory_of c.to-then-n-ne0.ensures.memory ∙ c.with_succ.ensures) refl c.requires.asked.hold c.to-then-n-ne0.ensures.course c.to-then-n-ne0.ensures.tells
+
+pub returns-then-n-ne0-clause-sound : goal.returns-then-n-ne0-clause-sound
 unfolding view
-overflow_cast-p-in-4 c =
-    omega (arith, c.requires.2.pred c.args.w)
+returns-then-n-ne0-clause-sound c =
+    rw (c.to-then-n-ne0.ensures.memory, c.with_succ.ensures) (sound_succ c.requires.sound _ (omega (arith, c.requires.sound.next c.args.step.w, c.if-n-ne0.true)))
 
-pub returns-in-4 : goal.returns-in-4
-unfolding view
-returns-in-4 c =
-    mcs_links (here c.requires.0 c.requires.2 c.due-due.ensures c.in-Step.is) _ _ _ _ _ c.in-4.is (c.with_next-in-4.ensures _) c.goes-in-4.ensures (ap (told_of _) c.later-in-4.ensures)
+pub returns-then-step-eq7-clause-stepped : goal.returns-then-step-eq7-clause-stepped
+unfolding step remote view
+returns-then-step-eq7-clause-stepped c =
+    stepped (looks 0 (memory_of c.args.self) c.args.step.w) c.args.step.w (rw c.if-step-eq7.true (ap (λ n. looks n (memory_of c.args.self) c.args.step.w) c.if-n-ne0.false))
+    (ap memory_of c.to-then-step-eq7.ensures.memory) refl c.requires.asked.hold c.to-then-step-eq7.ensures.course c.to-then-step-eq7.ensures.tells
 
-pub returns-then-locked-i-eq0 : goal.returns-then-locked-i-eq0
-unfolding view
-returns-then-locked-i-eq0 c =
-    mcs_granted (here c.requires.0 c.requires.2 c.due-due.ensures c.in-Step.is) _ _ _ _ _ c.in-5.is c.if-locked-i-eq0.true refl c.granted-then-locked-i-eq0.ensures (ap (told_of _) c.later-then-locked-i-eq0.ensures)
+pub returns-in-7-clause-stepped : goal.returns-in-7-clause-stepped
+unfolding step remote view
+returns-in-7-clause-stepped c =
+    let k : c.args.step.at ≡ 9 = search rules in
+    stepped (rereads 0 (memory_of c.args.self) c.args.step.w) c.args.step.w (rw k (ap (λ n. rereads n (memory_of c.args.self) c.args.step.w) c.if-n-ne0.false))
+    (ap memory_of c.stay-in-7.ensures.memory) refl c.requires.asked.hold c.stay-in-7.ensures.course c.stay-in-7.ensures.tells
 
-pub returns-in-5 : goal.returns-in-5
-unfolding view
-returns-in-5 c =
-    mcs_spins (here c.requires.0 c.requires.2 c.due-due.ensures c.in-Step.is) _ _ _ _ _ c.in-5.is c.if-locked-i-eq0.false refl refl (ap (told_of _) c.spin.ensures)
+pub returns-then-self-w-clause-stepped : goal.returns-then-self-w-clause-stepped
+unfolding step remote
+returns-then-self-w-clause-stepped c =
+    stepped (drains true (settings_of c.args.s.now) (memory_of c.args.self)) c.args.s.now.home (rw (c.in-8.is, eq-eqb _ _ (c.if-self-w.true ∙ add-one c.args.step.w)) refl)
+    (ap memory_of c.over.ensures.memory ∙ c.with_tail-then-self-w.ensures) refl c.requires.asked.hold c.over.ensures.course c.over.ensures.tells
 
-pub returns-then-n-ne0 : goal.returns-then-n-ne0
-unfolding view
-returns-then-n-ne0 c =
-    mcs_finds (here c.requires.0 c.requires.2 c.due-due.ensures c.in-Step.is) _ _ _ _ _ c.in-7.is c.if-n-ne0.true (c.with_succ.ensures _) c.goes-then-n-ne0.ensures (ap (told_of _) c.later-then-n-ne0.ensures)
-
-pub returns-then-step-eq7 : goal.returns-then-step-eq7
-unfolding view
-returns-then-step-eq7 c =
-    mcs_alone (here c.requires.0 c.requires.2 c.due-due.ensures c.in-Step.is) _ _ _ _ _ c.if-step-eq7.true c.if-n-ne0.false refl c.goes-then-step-eq7.ensures (ap (told_of _) c.later-then-step-eq7.ensures)
-
-pub returns-in-7 : goal.returns-in-7
-unfolding view
-returns-in-7 c =
-    mcs_rereads (here c.requires.0 c.requires.2 c.due-due.ensures c.in-Step.is) _ _ _ _ _ (elim c.in-7.is [ inl e ↦ absurd (c.if-step-eq7.false e) | inr e ↦ e ]) c.if-n-ne0.false refl refl (ap (told_of _) c.spin-in-7.ensures)
-
-pub returns-then-tail-w : goal.returns-then-tail-w
-returns-then-tail-w c =
-    mcs_drains (here c.requires.0 c.requires.2 c.due-due.ensures c.in-Step.is) _ _ _ _ _ c.in-8.is c.if-tail-w.true refl c.over.ensures (ap (told_of _) c.last.ensures)
-
-pub returns-in-8 : goal.returns-in-8
-returns-in-8 c =
-    mcs_fails (here c.requires.0 c.requires.2 c.due-due.ensures c.in-Step.is) _ _ _ _ _ c.in-8.is c.if-tail-w.false refl c.goes-in-8.ensures (ap (told_of _) c.later-in-8.ensures)
+pub returns-in-8-clause-stepped : goal.returns-in-8-clause-stepped
+unfolding step remote
+returns-in-8-clause-stepped c =
+    stepped (drains false (settings_of c.args.s.now) (memory_of c.args.self)) c.args.s.now.home (rw (c.in-8.is, ne_eqb _ _ (λ e. c.if-self-w.false (e ∙ sym (add-one c.args.step.w)))) refl)
+    (ap memory_of c.to-in-8.ensures.memory) refl c.requires.asked.hold c.to-in-8.ensures.course c.to-in-8.ensures.tells
 
 pub with_locked-requires-in_default : goal.with_locked-requires-in_default
 unfolding view
-with_locked-requires-in_default c =
-    omega (arith, c.requires.2.succ c.args.w)
+with_locked-requires-in_default c = c.requires.sound.succ c.args.step.w
 
-pub overflow_cast-q-in_default : goal.overflow_cast-q-in_default
-unfolding view
-overflow_cast-q-in_default c =
-    omega (arith, c.requires.2.succ c.args.w)
-
-pub returns-in_default : goal.returns-in_default
-unfolding view
-returns-in_default c =
-    mcs_wakes (here c.requires.0 c.requires.2 c.due-due.ensures c.in-Step.is) _ _ _ _ _ (search rules) (c.with_locked-in_default.ensures _) c.over-in_default.ensures (ap (told_of _) c.last-in_default.ensures)
+pub returns-in_default-clause-stepped : goal.returns-in_default-clause-stepped
+unfolding step remote view
+returns-in_default-clause-stepped c =
+    stepped (wakes (memory_of c.args.self) c.args.step.w) (view 0 c.args.self.succ c.args.step.w) (rw (ne_eqb c.args.step.at 1 (search rules), ne_eqb c.args.step.at 2 (search rules), ne_eqb c.args.step.at 3 (search rules), ne_eqb c.args.step.at 4 (search rules), ne_eqb c.args.step.at 5 (search rules), ne_eqb c.args.step.at 7 (search rules), ne_eqb c.args.step.at 8 (search rules), ne_eqb c.args.step.at 9 (search rules)) refl)
+    (ap memory_of c.over-in_default.ensures.memory ∙ c.with_locked-in_default.ensures) refl c.requires.asked.hold c.over-in_default.ensures.course c.over-in_default.ensures.tells
