@@ -13,7 +13,7 @@ use Rattle.dissem.specs.DissemView.{memory_of, Rounds, Sound}
 
 module _ {levels : ℕ} {x x' : State} {at at' : ℕ → ℕ} (rounds : Rounds levels x at) where
   -- processor w goes to step k, and is in round r
-  pub rounds_at : (w k r : ℕ) → at' ≡ upd at w k → x'.round ≡ upd x.round w r → (k ≡ 1 → r ≡ 0) → ((k ≡ 1 → ⊥) → r < levels) → Rounds levels x' at'
+  rounds_at : (w k r : ℕ) → at' ≡ upd at w k → x'.round ≡ upd x.round w r → (k ≡ 1 → r ≡ 0) → ((k ≡ 1 → ⊥) → r < levels) → Rounds levels x' at'
   rounds_at w k r a b first within = record { between = λ j. rw (a, b) (go_between j (ℕ_discrete j w)); within = λ j. rw (a, b) (go_within j (ℕ_discrete j w)) }
     where
       go_between : (j : ℕ) → Dec (j ≡ w) → upd at w k j ≡ 1 → upd x.round w r j ≡ 0
@@ -23,6 +23,14 @@ module _ {levels : ℕ} {x x' : State} {at at' : ℕ → ℕ} (rounds : Rounds l
       go_within : (j : ℕ) → Dec (j ≡ w) → (upd at w k j ≡ 1 → ⊥) → upd x.round w r j < levels
       go_within j (yes e) = rw (e, upd_same at w k, upd_same x.round w r) within
       go_within j (no n) = rw (upd_other at w k j n, upd_other x.round w r j n) (rounds.within j)
+
+-- the code's step leads to e, where processor w is in round r
+pub sound_at : {s : Settings} {d e d' : Dissem} {at at' : ℕ → ℕ} → Sound s d at → d' ≡ e → e.levels ≡ d.levels → (w k r : ℕ) → at' ≡ upd at w k
+    → (memory_of e).round ≡ upd (memory_of d).round w r → (k ≡ 1 → r ≡ 0) → ((k ≡ 1 → ⊥) → r < doublings s.procs) → Sound s d' at'
+sound_at sound is same w k r a b first within = record {
+  levels = ap (λ z. z.levels) is ∙ same ∙ sound.levels;
+  rounds = rounds_at sound.rounds w k r a (ap (λ z. (memory_of z).round) is ∙ b) first within;
+}
 
 -- ---- the round that a step finds
 

@@ -1,0 +1,116 @@
+-- The dissemination barrier's `step` meets its contract: each return is one of the rules' steps.
+use Rattle.std.proofs.Common.{◌≡◌, ℕ, ◌+◌, ◌≤◌, ◌<◌, true, false, refl, sym, ap, ◌∙◌, eqb, eq-eqb, ne_eqb, arith, rules}
+use Rattle.rules.specs.Step.{remote, nothing, one, arrive}
+use Rattle.rules.specs.Course.{Course}
+use Rattle.rules.specs.Dissem.{doublings, alone, partner, tells, waits, step}
+use Rattle.rules.proofs.Turned.{same_upd}
+use Rattle.rules.proofs.Views.{Place, view_at}
+use Rattle.settings.specs.View.{settings_of}
+use Rattle.turns.specs.Saying.{says_of}
+use Rattle.turns.proofs.Turning.{stepped}
+use Rattle.dissem.specs.DissemView.{memory_of}
+use Rattle.dissem.proofs.DissemRounds.{sound_at, round_first, round_within, round<6, round<R, only_first}
+use Rattle.dissem.proofs.DissemStates.{told_is, read_flag, read_sense}
+use Rattle.dissem.proofs.barrier.DissemMachine.step.Goals as goal
+use Rattle.dissem.proofs.barrier.DissemMachine.step.Goals.{then-at-eq1, else-at-eq1}
+
+pub bit-requires : goal.bit-requires
+bit-requires c =
+    let p : Place c.args.self.own c.args.step.w = search rules in
+    omega (arith, round<6 c.requires.sound.rounds c.args.step.here c.requires.asked.below c.requires.asked.procs, c.variable.ensures, view_at 1 p)
+
+pub returns-then-bit-sense-clause-stepped : goal.returns-then-bit-sense-clause-stepped
+unfolding step remote
+returns-then-bit-sense-clause-stepped c =
+    let p : Place c.args.self.own c.args.step.w = search rules in
+    let q : Place c.args.self.flags c.args.step.w = search rules in
+    let flag = read_flag q p c.variable.ensures c.bit.ensures in
+    let own = read_sense p c.sense.ensures in
+    let differs : c.bit.result ≡ c.sense.result → ⊥ = search rules in
+    let x = memory_of c.args.self in
+    let i = c.args.step.w in
+    stepped (waits false (eqb (x.round i + 1) (doublings c.args.s.now.procs)) x i) i (rw (c.if-at-eq2.true, ne_eqb _ _ (λ e. differs (sym flag ∙ e ∙ own))) refl)
+    (ap memory_of c.stay.ensures.memory) refl c.requires.asked.hold c.stay.ensures.course c.stay.ensures.tells
+
+pub returns-then-o-self-clause-stepped : goal.returns-then-o-self-clause-stepped
+unfolding step remote
+returns-then-o-self-clause-stepped c =
+    let p : Place c.args.self.own c.args.step.w = search rules in
+    let q : Place c.args.self.flags c.args.step.w = search rules in
+    let flag = read_flag q p c.variable.ensures c.bit.ensures in
+    let own = read_sense p c.sense.ensures in
+    let last : (memory_of c.args.self).round c.args.step.w + 1 ≡ doublings c.args.s.now.procs = rw (view_at 1 p) (search rules) in
+    stepped (waits true true (memory_of c.args.self) c.args.step.w) c.args.step.w (rw (c.if-at-eq2.true, eq-eqb _ _ (flag ∙ search rules ∙ sym own), eq-eqb _ _ last) refl)
+    (ap memory_of c.over.ensures.memory ∙ c.leaves.ensures.memory) refl c.requires.asked.hold c.over.ensures.course c.over.ensures.tells
+
+pub returns-then-o-self-clause-sound : goal.returns-then-o-self-clause-sound
+returns-then-o-self-clause-sound c =
+    sound_at c.requires.sound c.over.ensures.memory c.leaves.ensures.levels c.args.step.w 1 0 (ap (λ (z : Course). z.at) c.over.ensures.course)
+    (ap (λ z. z.round) c.leaves.ensures.memory) (λ e. refl) (λ n. absurd (n refl))
+
+pub goes_on-requires-clause-round : goal.goes_on-requires-clause-round
+goes_on-requires-clause-round c = round<6 c.requires.sound.rounds c.args.step.here c.requires.asked.below c.requires.asked.procs
+
+pub returns-then-at-eq2-clause-stepped : goal.returns-then-at-eq2-clause-stepped
+unfolding step remote
+returns-then-at-eq2-clause-stepped c =
+    let p : Place c.args.self.own c.args.step.w = search rules in
+    let q : Place c.args.self.flags c.args.step.w = search rules in
+    let flag = read_flag q p c.variable.ensures c.bit.ensures in
+    let own = read_sense p c.sense.ensures in
+    let more : (memory_of c.args.self).round c.args.step.w + 1 ≡ doublings c.args.s.now.procs → ⊥ = rw (view_at 1 p) (search rules) in
+    stepped (waits true false (memory_of c.args.self) c.args.step.w) c.args.step.w (rw (c.if-at-eq2.true, eq-eqb _ _ (flag ∙ search rules ∙ sym own), ne_eqb _ _ more) refl)
+    (ap memory_of c.to.ensures.memory ∙ c.goes_on.ensures.memory) refl c.requires.asked.hold c.to.ensures.course c.to.ensures.tells
+
+pub returns-then-at-eq2-clause-sound : goal.returns-then-at-eq2-clause-sound
+returns-then-at-eq2-clause-sound c =
+    let p : Place c.args.self.own c.args.step.w = search rules in
+    let more : (memory_of c.args.self).round c.args.step.w + 1 ≡ doublings c.args.s.now.procs → ⊥ = rw (view_at 1 p) (search rules) in
+    let within = round_within c.requires.sound.rounds c.args.step.here c.requires.asked.below (λ e. absurd (omega (arith, e, c.if-at-eq2.true))) in
+    sound_at c.requires.sound c.to.ensures.memory c.goes_on.ensures.levels c.args.step.w 3 ((memory_of c.args.self).round c.args.step.w + 1) (ap (λ (z : Course). z.at) c.to.ensures.course)
+    (ap (λ z. z.round) c.goes_on.ensures.memory) (λ e. absurd (omega (arith, e))) (λ n. omega (arith, more, within))
+
+pub returns-then-s-eq1-clause-stepped : goal.returns-then-s-eq1-clause-stepped
+unfolding step remote
+returns-then-s-eq1-clause-stepped c =
+    let first = only_first c.requires.sound.rounds c.args.step.here c.requires.asked.below c.if-s-eq1.true in
+    stepped (alone (memory_of c.args.self)) c.args.step.w (rw (first, c.if-s-eq1.true) refl)
+    (ap memory_of c.over-then-s-eq1.ensures.memory) (rw (eq-eqb c.args.step.w c.args.step.w refl) refl) c.requires.asked.hold c.over-then-s-eq1.ensures.course c.over-then-s-eq1.ensures.tells
+
+pub returns-then-s-eq1-clause-sound : goal.returns-then-s-eq1-clause-sound
+returns-then-s-eq1-clause-sound c =
+    let x = memory_of c.args.self in
+    let first = only_first c.requires.sound.rounds c.args.step.here c.requires.asked.below c.if-s-eq1.true in
+    let round = round_first c.requires.sound.rounds c.args.step.here c.requires.asked.below first in
+    sound_at c.requires.sound c.over-then-s-eq1.ensures.memory refl c.args.step.w 1 0 (ap (λ (z : Course). z.at) c.over-then-s-eq1.ensures.course)
+    (sym (same_upd x.round c.args.step.w 0 (sym round))) (λ e. refl) (λ n. absurd (n refl))
+
+pub partner-j-requires-clause-round : goal.partner-j-requires-clause-round
+partner-j-requires-clause-round c =
+    let p : Place c.args.self.own c.args.step.w = search rules in
+    rw (← view_at 1 p) (round<R c.requires.sound.rounds c.args.step.here c.requires.asked.below (search rules))
+
+pub tells-requires-clause-round : goal.tells-requires-clause-round
+tells-requires-clause-round c = round<6 c.requires.sound.rounds c.args.step.here c.requires.asked.below c.requires.asked.procs
+
+pub returns-clause-stepped : goal.returns-clause-stepped
+unfolding step remote
+returns-clause-stepped c =
+    let s = settings_of c.args.s.now in
+    let x = memory_of c.args.self in
+    let i = c.args.step.w in
+    let p : Place c.args.self.own c.args.step.w = search rules in
+    let j : c.partner-j.result ≡ partner s i (x.round i) = rw (view_at 1 p) c.partner-j.ensures.is in
+    let is : step s x c.args.step.at i ≡ tells (x.round i) (says_of c.if-at-eq1.says) s x i =
+        elim c.if-at-eq1.branch [
+          then-at-eq1 w ↦ rw (w.if-at-eq1.true, ne_eqb _ _ c.if-s-eq1.false, w.says-is, round_first c.requires.sound.rounds c.args.step.here c.requires.asked.below w.if-at-eq1.true) refl |
+          else-at-eq1 w ↦ rw (ne_eqb _ _ w.if-at-eq1.false, ne_eqb _ _ c.if-at-eq2.false, w.says-is) refl ] in
+    stepped (tells (x.round i) (says_of c.if-at-eq1.says) s x i) c.partner-j.result is
+    (ap memory_of c.to-2.ensures.memory ∙ c.tells.ensures.memory ∙ told_is s x i (says_of c.if-at-eq1.says) j) (rw j refl) c.requires.asked.hold c.to-2.ensures.course c.to-2.ensures.tells
+
+pub returns-clause-sound : goal.returns-clause-sound
+returns-clause-sound c =
+    let x = memory_of c.args.self in
+    sound_at c.requires.sound c.to-2.ensures.memory c.tells.ensures.levels c.args.step.w 2 (x.round c.args.step.w) (ap (λ (z : Course). z.at) c.to-2.ensures.course)
+    (ap (λ z. z.round) c.tells.ensures.memory ∙ sym (same_upd x.round c.args.step.w (x.round c.args.step.w) refl)) (λ e. absurd (omega (arith, e)))
+    (λ n. round<R c.requires.sound.rounds c.args.step.here c.requires.asked.below (search rules))
