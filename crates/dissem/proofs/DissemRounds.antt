@@ -6,6 +6,7 @@ use Rattle.rules.specs.Settings.{Settings}
 use Rattle.rules.specs.Dissem.{State, doublings}
 use Rattle.rules.proofs.Store.{upd_same, upd_other}
 use Rattle.rules.proofs.Levels.{doublings_least, doublings≤, some_rounds}
+use Rattle.turns.specs.Stepping.{Asked}
 use Rattle.dissem.specs.declared.barrier.Dissem.{Dissem}
 use Rattle.dissem.specs.DissemView.{memory_of, Rounds, Sound}
 
@@ -34,29 +35,29 @@ sound_at sound is same w k r a b first within = record {
 
 -- ---- the round that a step finds
 
-module _ {x : State} {at : ℕ → ℕ} {w k procs : ℕ} (rounds : Rounds (doublings procs) x at) (here : at w ≡ k) (below : w < procs) where
-  pub round_first : k ≡ 1 → x.round w ≡ 0
-  round_first e = rounds.between w (here ∙ e)
+module _ {s : Settings} {d : Dissem} {at : ℕ → ℕ} {w k hold : ℕ} (sound : Sound s d at) (here : at w ≡ k) (asked : Asked s w hold) where
+  pub round_first : k ≡ 1 → (memory_of d).round w ≡ 0
+  round_first e = sound.rounds.between w (here ∙ e)
 
-  pub round_within : (k ≡ 1 → ⊥) → x.round w < doublings procs
-  round_within n = rounds.within w (λ e. n (sym here ∙ e))
+  pub round_within : (k ≡ 1 → ⊥) → (memory_of d).round w < doublings s.procs
+  round_within n = sound.rounds.within w (λ e. n (sym here ∙ e))
 
-  round_under : (m : ℕ) → 0 < m → doublings procs ≤ m → x.round w < m
+  round_under : (m : ℕ) → 0 < m → doublings s.procs ≤ m → (memory_of d).round w < m
   round_under m some all = go (ℕ_discrete k 1)
     where
-      go : Dec (k ≡ 1) → x.round w < m
+      go : Dec (k ≡ 1) → (memory_of d).round w < m
       go (yes e) = omega (arith, round_first e)
       go (no n) = omega (arith, round_within n)
 
-  pub round<6 : procs ≤ 64 → x.round w < 6
-  round<6 most = round_under 6 (omega arith) (doublings≤ procs most)
+  pub round<6 : (memory_of d).round w < 6
+  round<6 = round_under 6 (omega arith) (doublings≤ s.procs asked.procs)
 
   -- where there are others to tell, it is one of the R
-  pub round<R : (procs ≡ 1 → ⊥) → x.round w < doublings procs
-  round<R n = round_under (doublings procs) (some_rounds procs (omega (arith, below))) (omega arith)
+  pub round<R : (s.procs ≡ 1 → ⊥) → (memory_of d).round w < doublings s.procs
+  round<R n = round_under (doublings s.procs) (some_rounds s.procs (omega (arith, asked.below))) (omega arith)
 
   -- where there is one processor, there are no rounds
-  pub only_first : procs ≡ 1 → k ≡ 1
+  pub only_first : s.procs ≡ 1 → k ≡ 1
   only_first e = go (ℕ_discrete k 1)
     where
       go : Dec (k ≡ 1) → k ≡ 1

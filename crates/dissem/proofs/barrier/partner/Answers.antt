@@ -1,5 +1,5 @@
 -- `dissem::barrier::partner` meets its contract.
-use Rattle.std.proofs.Common.{◌≡◌, ℕ, ◌+◌, ◌-◌, ◌*◌, ◌%◌, ◌^◌, ◌≤◌, ◌<◌, arith, sym, ◌∙◌}
+use Rattle.std.proofs.Common.{◌≡◌, ℕ, ◌*◌, ◌%◌, ◌^◌, ◌≤◌, ◌<◌, arith, sym, ◌∙◌}
 use native.Mathlib.Nat.{mod-eq_of_lt, mod-eq-sub-mod}
 use Rattle.rules.specs.Dissem.{doublings}
 use Rattle.rules.proofs.Levels.{doublings≤, round_below}

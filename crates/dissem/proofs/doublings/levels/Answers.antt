@@ -1,9 +1,8 @@
 -- `dissem::doublings::levels` meets its contract.
 -- the leading zeros of p - 1 and its length in bits make 16, and that length is the least r with p ≤ 2 ^ r
-use Rattle.std.proofs.Common.{◌∙◌, ◌≡◌, ℕ, ◌-◌, ◌<◌, ◌^◌, arith, rules}
+use Rattle.std.proofs.Common.{◌∙◌, ◌≡◌, ◌-◌, arith}
 use Rattle.std.specs.Int.Count.{count_leading_zeros}
 use Rattle.std.proofs.lemmas.Nat.{leading_length}
-use Rattle.rules.specs.Dissem.{doublings}
 use Rattle.rules.proofs.Levels.{doublings_is}
 use Rattle.dissem.proofs.doublings.levels.Goals as goal
 
