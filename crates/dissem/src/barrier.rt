@@ -9,7 +9,8 @@ use settings::Settings;
 use turns::{Kind, Machine, Says, State, Step, bit, with_bit};
 
 // flags: of each processor its flags, variable v as bit v. levels: R. own: of each processor its round * 4 + parity * 2 + sense.
-// levels stands between the rows: the compiler then copies only the one that a step changes.
+// levels stands between the rows: the compiler then copies only the one that a step changes. For the same reason a row that is read has a
+// name of its own.
 #[derive(Clone, Copy)]
 pub struct Dissem {
     flags: [u16; 64],
@@ -28,6 +29,12 @@ fn variable(own: u8) -> u8
     ensures { result ≡ 2 * round_of own + parity_of own }
 {
     own >> 1
+}
+
+fn round(own: u8) -> u8
+    ensures { result ≡ round_of own }
+{
+    own >> 2
 }
 
 // What own becomes on leaving: the sense is toggled if parity is 1, parity changes, and the round is 0.
@@ -121,7 +128,7 @@ impl Machine for Dissem {
             if bit(flags[i], variable(o)) != sense(o) {
                 return step.stay(self, w);
             }
-            if (o >> 2) + 1 == self.levels {
+            if round(o) + 1 == self.levels {
                 return step.over(self.leaves(i), w, Says::One(Kind::Leave));
             }
             return step.to(self.goes_on(i), w, Says::Nothing, 3);
@@ -129,7 +136,7 @@ impl Machine for Dissem {
         if s.procs == 1 {
             return step.over(self, w, Says::Two(Kind::Arrive, Kind::Leave));
         }
-        let j = partner(w, o >> 2, s.procs);
+        let j = partner(w, round(o), s.procs);
         let says = if at == 1 {
             Says::One(Kind::Arrive)
         } else {

@@ -1,13 +1,12 @@
 -- `dissem::doublings::levels` meets its contract.
 -- the leading zeros of p - 1 and its length in bits make 16, and that length is the least r with p ≤ 2 ^ r
-use Rattle.std.proofs.Common.{◌∙◌, ◌≡◌, ◌-◌, arith}
-use Rattle.std.specs.Int.Count.{count_leading_zeros}
+use Rattle.std.proofs.Common.{◌-◌, arith}
 use Rattle.std.proofs.lemmas.Nat.{leading_length}
 use Rattle.rules.proofs.Levels.{doublings_is}
 use Rattle.dissem.proofs.doublings.levels.Goals as goal
 
 pub returns : goal.returns
 returns c =
-    let s = leading_length 16 (c.args.procs - 1) (omega arith) in
-    let is : 16 - count_leading_zeros 16 (c.args.procs - 1) ≡ s.0 = omega (arith, s.1) in
-    is ∙ doublings_is c.args.procs s.0 (omega (arith, s.2)) (omega (arith, s.3))
+    let length = leading_length 16 (c.args.procs - 1) (omega arith) in
+    let least = doublings_is c.args.procs length.0 (omega (arith, length.2)) (omega (arith, length.3)) in
+    omega (arith, length.1, least)

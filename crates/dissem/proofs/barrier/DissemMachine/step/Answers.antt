@@ -32,9 +32,9 @@ returns-then-bit-sense-clause-stepped c =
     stepped (waits false (eqb (x.round i + 1) (doublings c.args.s.now.procs)) x i) i (rw (c.if-at-eq2.true, ne_eqb _ _ (λ e. differs (sym flag ∙ e ∙ own))) refl)
     (ap memory_of c.stay.ensures.memory) refl c.requires.asked.hold c.stay.ensures.course c.stay.ensures.tells
 
-pub returns-then-o-self-clause-stepped : goal.returns-then-o-self-clause-stepped
+pub returns-then-round-self-clause-stepped : goal.returns-then-round-self-clause-stepped
 unfolding step remote
-returns-then-o-self-clause-stepped c =
+returns-then-round-self-clause-stepped c =
     let p : Place c.args.self.own c.args.step.w = search rules in
     let q : Place c.args.self.flags c.args.step.w = search rules in
     let flag = read_flag q p c.variable.ensures c.bit.ensures in
@@ -43,8 +43,8 @@ returns-then-o-self-clause-stepped c =
     stepped (waits true true (memory_of c.args.self) c.args.step.w) c.args.step.w (rw (c.if-at-eq2.true, eq-eqb _ _ (flag ∙ search rules ∙ sym own), eq-eqb _ _ last) refl)
     (ap memory_of c.over.ensures.memory ∙ c.leaves.ensures.memory) refl c.requires.asked.hold c.over.ensures.course c.over.ensures.tells
 
-pub returns-then-o-self-clause-sound : goal.returns-then-o-self-clause-sound
-returns-then-o-self-clause-sound c =
+pub returns-then-round-self-clause-sound : goal.returns-then-round-self-clause-sound
+returns-then-round-self-clause-sound c =
     sound_at c.requires.sound c.over.ensures.memory c.leaves.ensures.levels c.args.step.w 1 0 (ap (λ (z : Course). z.at) c.over.ensures.course)
     (ap (λ z. z.round) c.leaves.ensures.memory) (λ e. refl) (λ n. absurd (n refl))
 
@@ -88,7 +88,7 @@ returns-then-s-eq1-clause-sound c =
 pub partner-j-requires-clause-round : goal.partner-j-requires-clause-round
 partner-j-requires-clause-round c =
     let p : Place c.args.self.own c.args.step.w = search rules in
-    rw (← view_at 1 p) (round<R c.requires.sound c.args.step.here c.requires.asked (search rules))
+    rw (c.round-2.ensures, ← view_at 1 p) (round<R c.requires.sound c.args.step.here c.requires.asked (search rules))
 
 pub tells-requires-clause-round : goal.tells-requires-clause-round
 tells-requires-clause-round c = round<6 c.requires.sound c.args.step.here c.requires.asked
@@ -100,7 +100,7 @@ returns-clause-stepped c =
     let x = memory_of c.args.self in
     let i = c.args.step.w in
     let p : Place c.args.self.own c.args.step.w = search rules in
-    let j : c.partner-j.result ≡ partner s i (x.round i) = rw (view_at 1 p) c.partner-j.ensures.is in
+    let j : c.partner-j.result ≡ partner s i (x.round i) = rw (view_at 1 p, ← c.round-2.ensures) c.partner-j.ensures.is in
     let is : step s x c.args.step.at i ≡ tells (x.round i) (says_of c.if-at-eq1.says) s x i =
     elim c.if-at-eq1.branch [
       | then-at-eq1 w ↦ rw (w.if-at-eq1.true, ne_eqb _ _ c.if-s-eq1.false, w.says-is, round_first c.requires.sound c.args.step.here c.requires.asked w.if-at-eq1.true) refl
