@@ -10,7 +10,7 @@ use Rattle.turns.specs.Saying.{says_of}
 use Rattle.turns.proofs.Turning.{stepped}
 use Rattle.dissem.specs.DissemView.{memory_of}
 use Rattle.dissem.proofs.DissemRounds.{sound_at, round_first, round_within, round<6, round<R, only_first}
-use Rattle.dissem.proofs.DissemStates.{told_is, read_flag, read_sense}
+use Rattle.dissem.proofs.DissemStates.{told_is, equal, unequal}
 use Rattle.dissem.proofs.barrier.DissemMachine.step.Goals as goal
 use Rattle.dissem.proofs.barrier.DissemMachine.step.Goals.{then-at-eq1, else-at-eq1}
 
@@ -24,12 +24,10 @@ unfolding step remote
 returns-then-bit-sense-clause-stepped c =
     let p : Place c.args.self.own c.args.step.w = search rules in
     let q : Place c.args.self.flags c.args.step.w = search rules in
-    let flag = read_flag q p c.variable.ensures c.bit.ensures in
-    let own = read_sense p c.sense.ensures in
-    let differs : c.bit.result ≡ c.sense.result → ⊥ = search rules in
+    let differs = unequal q p c.variable.ensures c.bit.ensures c.sense.ensures c.if-bit-sense.true in
     let x = memory_of c.args.self in
     let i = c.args.step.w in
-    stepped (waits false (eqb (x.round i + 1) (doublings c.args.s.now.procs)) x i) i (rw (c.if-at-eq2.true, ne_eqb _ _ (λ e. differs (sym flag ∙ e ∙ own))) refl)
+    stepped (waits false (eqb (x.round i + 1) (doublings c.args.s.now.procs)) x i) i (rw (c.if-at-eq2.true, ne_eqb _ _ differs) refl)
     (ap memory_of c.stay.ensures.memory) refl c.requires.asked.hold c.stay.ensures.course c.stay.ensures.tells
 
 pub returns-then-round-self-clause-stepped : goal.returns-then-round-self-clause-stepped
@@ -37,10 +35,9 @@ unfolding step remote
 returns-then-round-self-clause-stepped c =
     let p : Place c.args.self.own c.args.step.w = search rules in
     let q : Place c.args.self.flags c.args.step.w = search rules in
-    let flag = read_flag q p c.variable.ensures c.bit.ensures in
-    let own = read_sense p c.sense.ensures in
+    let equals = equal q p c.variable.ensures c.bit.ensures c.sense.ensures c.if-bit-sense.false in
     let last : (memory_of c.args.self).round c.args.step.w + 1 ≡ doublings c.args.s.now.procs = rw (view_at 1 p) (search rules) in
-    stepped (waits true true (memory_of c.args.self) c.args.step.w) c.args.step.w (rw (c.if-at-eq2.true, eq-eqb _ _ (flag ∙ search rules ∙ sym own), eq-eqb _ _ last) refl)
+    stepped (waits true true (memory_of c.args.self) c.args.step.w) c.args.step.w (rw (c.if-at-eq2.true, eq-eqb _ _ equals, eq-eqb _ _ last) refl)
     (ap memory_of c.over.ensures.memory ∙ c.leaves.ensures.memory) refl c.requires.asked.hold c.over.ensures.course c.over.ensures.tells
 
 pub returns-then-round-self-clause-sound : goal.returns-then-round-self-clause-sound
@@ -56,10 +53,9 @@ unfolding step remote
 returns-then-at-eq2-clause-stepped c =
     let p : Place c.args.self.own c.args.step.w = search rules in
     let q : Place c.args.self.flags c.args.step.w = search rules in
-    let flag = read_flag q p c.variable.ensures c.bit.ensures in
-    let own = read_sense p c.sense.ensures in
+    let equals = equal q p c.variable.ensures c.bit.ensures c.sense.ensures c.if-bit-sense.false in
     let more : (memory_of c.args.self).round c.args.step.w + 1 ≡ doublings c.args.s.now.procs → ⊥ = rw (view_at 1 p) (search rules) in
-    stepped (waits true false (memory_of c.args.self) c.args.step.w) c.args.step.w (rw (c.if-at-eq2.true, eq-eqb _ _ (flag ∙ search rules ∙ sym own), ne_eqb _ _ more) refl)
+    stepped (waits true false (memory_of c.args.self) c.args.step.w) c.args.step.w (rw (c.if-at-eq2.true, eq-eqb _ _ equals, ne_eqb _ _ more) refl)
     (ap memory_of c.to.ensures.memory ∙ c.goes_on.ensures.memory) refl c.requires.asked.hold c.to.ensures.course c.to.ensures.tells
 
 pub returns-then-at-eq2-clause-sound : goal.returns-then-at-eq2-clause-sound
