@@ -1,2 +1,2 @@
-pub mod DissemFlags
-pub mod DissemTurns
+pub mod DissemRounds
+pub mod DissemStates

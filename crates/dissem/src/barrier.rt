@@ -1,15 +1,16 @@
 // The dissemination barrier (figure 10).
-ghost use Rattle.std.specs.Prelude.{◌≡◌, ◌<◌, ◌≤◌, ◌+◌, ◌-◌, ◌*◌, ◌%◌, ◌^◌, eqb};
-ghost use Rattle.rules.specs.Memory.{pick, upd};
-ghost use Rattle.rules.specs.Dissem.{machine, doublings};
-ghost use Rattle.dissem.specs.DissemView.{sense_of, parity_of, round_of, memory_of, Sound};
+ghost use Rattle.std.specs.Prelude.{◌≡◌, ◌<◌, ◌≤◌, ◌+◌, ◌-◌, ◌*◌, ◌%◌, ◌^◌, true, false, eqb};
+ghost use Rattle.rules.specs.Memory.{pick};
+ghost use Rattle.rules.specs.Dissem.{machine, doublings, waits};
+ghost use Rattle.dissem.specs.DissemView.{sense_of, parity_of, round_of, memory_of, told, Sound};
 
 use crate::doublings::levels;
 use settings::Settings;
 use turns::{Kind, Machine, Says, State, Step, bit, with_bit};
 
 // flags: of each processor its flags, variable v as bit v. levels: R. own: of each processor its round * 4 + parity * 2 + sense.
-// levels stands between the rows: the compiler then copies only the one that a step changes.
+// levels stands between the rows: the compiler then copies only the one that a step changes. For the same reason a row that is read has a
+// name of its own.
 #[derive(Clone, Copy)]
 pub struct Dissem {
     flags: [u16; 64],
@@ -30,9 +31,17 @@ fn variable(own: u8) -> u8
     own >> 1
 }
 
+fn round(own: u8) -> u8
+    ensures { result ≡ round_of own }
+{
+    own >> 2
+}
+
 // What own becomes on leaving: the sense is toggled if parity is 1, parity changes, and the round is 0.
 fn left(own: u8) -> u8
-    ensures { (sense_of result ≡ pick (eqb (parity_of own) 1) (1 - sense_of own) (sense_of own)) × (parity_of result ≡ 1 - parity_of own) × (round_of result ≡ 0) }
+    ensures sense { sense_of result ≡ pick (eqb (parity_of own) 1) (1 - sense_of own) (sense_of own) }
+    ensures parity { parity_of result ≡ 1 - parity_of own }
+    ensures round { round_of result ≡ 0 }
 {
     match own & 3 {
         0 => 2,
@@ -44,21 +53,23 @@ fn left(own: u8) -> u8
 
 // The processor that w tells in round k. In each of the R rounds 2^k is below procs, so the sum is below twice procs.
 fn partner(w: u16, k: u8, procs: u16) -> u16
-    requires { (w < procs) × (procs ≤ 64) × (k < doublings procs) }
-    ensures { (result ≡ (w + 2 ^ k) % procs) × (result < procs) }
+    requires below { w < procs }
+    requires procs { procs ≤ 64 }
+    requires round { k < doublings procs }
+    ensures is { result ≡ (w + 2 ^ k) % procs }
+    ensures below { result < procs }
 {
     let j = w + (1u16 << k);
-    if procs <= j {
-        return j - procs;
-    }
-    j
+    if procs <= j { j - procs } else { j }
 }
 
 impl Dissem {
     // Processor i writes its sense into j's flag, at its own parity and round.
     fn tells(self, i: usize, j: usize) -> Dissem
-        requires { (i < 64) × (j < 64) × ((memory_of self).round i < 6) }
-        ensures { memory_of result ≡ record { flag = upd (memory_of self).flag j (upd ((memory_of self).flag j) (2 * (memory_of self).round i + (memory_of self).parity i) ((memory_of self).sense i)); sense = (memory_of self).sense; parity = (memory_of self).parity; round = (memory_of self).round } }
+        requires in_rows { (i < 64) × (j < 64) }
+        requires round { (memory_of self).round i < 6 }
+        ensures levels { result.levels ≡ self.levels }
+        ensures memory { memory_of result ≡ told i j (memory_of self) }
     {
         let own = self.own;
         let o = own[i];
@@ -69,17 +80,21 @@ impl Dissem {
 
     // Processor i goes to the next round.
     fn goes_on(self, i: usize) -> Dissem
-        requires { (i < 64) × ((memory_of self).round i < 6) }
-        ensures { memory_of result ≡ record { flag = (memory_of self).flag; sense = (memory_of self).sense; parity = (memory_of self).parity; round = upd (memory_of self).round i ((memory_of self).round i + 1) } }
+        requires in_rows { i < 64 }
+        requires round { (memory_of self).round i < 6 }
+        ensures levels { result.levels ≡ self.levels }
+        ensures memory { memory_of result ≡ (waits true false (memory_of self) i).memory }
     {
         let mut own = self.own;
         own[i] += 4;
         Dissem { own, ..self }
     }
 
+    // Processor i ends its passage.
     fn leaves(self, i: usize) -> Dissem
         requires { i < 64 }
-        ensures { memory_of result ≡ record { flag = (memory_of self).flag; sense = upd (memory_of self).sense i (pick (eqb ((memory_of self).parity i) 1) (1 - (memory_of self).sense i) ((memory_of self).sense i)); parity = upd (memory_of self).parity i (1 - (memory_of self).parity i); round = upd (memory_of self).round i 0 } }
+        ensures levels { result.levels ≡ self.levels }
+        ensures memory { memory_of result ≡ (waits true true (memory_of self) i).memory }
     {
         let mut own = self.own;
         own[i] = left(own[i]);
@@ -113,7 +128,7 @@ impl Machine for Dissem {
             if bit(flags[i], variable(o)) != sense(o) {
                 return step.stay(self, w);
             }
-            if (o >> 2) + 1 == self.levels {
+            if round(o) + 1 == self.levels {
                 return step.over(self.leaves(i), w, Says::One(Kind::Leave));
             }
             return step.to(self.goes_on(i), w, Says::Nothing, 3);
@@ -121,7 +136,7 @@ impl Machine for Dissem {
         if s.procs == 1 {
             return step.over(self, w, Says::Two(Kind::Arrive, Kind::Leave));
         }
-        let j = partner(w, o >> 2, s.procs);
+        let j = partner(w, round(o), s.procs);
         let says = if at == 1 {
             Says::One(Kind::Arrive)
         } else {

@@ -1,13 +1,12 @@
--- `dissem::barrier::Flags::leaves` meets its contract.
-use borrow.Author.Rules.{rules}
-use mathlib.Core.Path.{refl}
+-- `dissem::barrier::Dissem::leaves` meets its contract.
+use Rattle.std.proofs.Common.{refl, rules}
 use Rattle.rules.proofs.Views.{Place, view_at, view_part}
 use Rattle.dissem.specs.DissemView.{sense_of, parity_of, round_of}
-use Rattle.dissem.proofs.DissemFlags.{same_flags}
-use Rattle.dissem.proofs.barrier.Flags.leaves.Goals as goal
+use Rattle.dissem.proofs.DissemStates.{same_state}
+use Rattle.dissem.proofs.barrier.Dissem.leaves.Goals as goal
 
-pub returns : goal.returns
-returns c =
+pub returns-clause-memory : goal.returns-clause-memory
+returns-clause-memory c =
     let p : Place c.args.self.own c.args.i = search rules in
-    same_flags _ _ refl (view_part sense_of 1 p (rw (view_at 1 p) c.left.ensures.0)) (view_part parity_of 1 p (rw (view_at 1 p) c.left.ensures.1))
-    (view_part round_of 1 p c.left.ensures.2)
+    same_state _ _ refl (view_part sense_of 1 p (rw (view_at 1 p) c.left.ensures.sense)) (view_part parity_of 1 p (rw (view_at 1 p) c.left.ensures.parity))
+    (view_part round_of 1 p c.left.ensures.round)

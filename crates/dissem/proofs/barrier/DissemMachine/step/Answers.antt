@@ -1,96 +1,113 @@
--- `dissem::barrier::Dissem::turn` meets its contract: each return is one way that a turn goes.
-use borrow.Author.Rules.{rules}
-use mathlib.Core.Path.{◌≡◌, refl, sym, ap, ◌∙◌}
-use Prim.Native.Nat.{ℕ, ◌≤◌, ◌<◌}
-use native.Mathlib.Omega.{arith}
+-- The dissemination barrier's `step` meets its contract: each return is one of the rules' steps.
+use Rattle.std.proofs.Common.{◌≡◌, ◌+◌, true, false, refl, sym, ap, ◌∙◌, eqb, eq-eqb, ne_eqb, arith, rules}
+use Rattle.rules.specs.Step.{remote}
 use Rattle.rules.specs.Course.{Course}
-use Rattle.rules.specs.Dissem.{State, doublings}
+use Rattle.rules.specs.Dissem.{doublings, alone, partner, tells, waits, step}
+use Rattle.rules.proofs.Turned.{same_upd}
 use Rattle.rules.proofs.Views.{Place, view_at}
-use Rattle.turns.specs.View.{course_of, told_of, Dues}
-use Rattle.turns.specs.declared.course.Due.{Due}
-use Rattle.turns.specs.declared.course.Due.TheVariants as due
-use Rattle.turns.proofs.Courses.{held_some}
-use Rattle.turns.proofs.Turning.{told_none}
-use Rattle.dissem.specs.DissemView.{Sound}
-use Rattle.dissem.proofs.DissemFlags.{read_flag, read_sense}
-use Rattle.dissem.proofs.DissemTurns.{Here, round<6, round<R, dissem_holds, dissem_idles, dissem_alone, dissem_tells, dissem_spins, dissem_goes_on, dissem_leaves}
-use Rattle.dissem.proofs.barrier.Dissem.turn.Goals as goal
-
--- a step of the passage, as the laws take it
-here : (w procs levels rounds : ℕ) {x : State} {c : Course} {k : ℕ} {what : Due} → w < procs → procs ≤ 64 → levels ≡ doublings procs → Sound levels x c
-    → Dues c w rounds what → what ≡ due.Step k → Here w procs levels rounds x c k
-here w procs levels rounds l m r s d i = record { below = l; most = m; rounds_are = r; sound = s; what = _; dues = d; is = i }
-
-pub held-requires : goal.held-requires
-held-requires c =
-    let k = course_of c.args.self.course in
-    (search rules, held_some c.args.self.course.at c.args.self.course.left k.at k.done _ _ c.due-due.result c.due-due.ensures c.in-Hold.is)
-
-pub returns-in-Hold : goal.returns-in-Hold
-returns-in-Hold c =
-    dissem_holds _ _ _ _ _ _ _ (search rules) c.due-due.result c.due-due.ensures _ _ _ (search rules) refl c.held.ensures (told_none _ _ _ c.none.ensures)
-
-pub returns-in-Idle : goal.returns-in-Idle
-returns-in-Idle c =
-    dissem_idles _ _ _ _ _ _ _ (search rules) c.due-due.result c.due-due.ensures _ _ _ (search rules) refl refl (told_none _ _ _ c.none-in-Idle.ensures)
+use Rattle.settings.specs.View.{settings_of}
+use Rattle.turns.specs.Saying.{says_of}
+use Rattle.turns.proofs.Turning.{stepped}
+use Rattle.dissem.specs.DissemView.{memory_of}
+use Rattle.dissem.proofs.DissemRounds.{sound_at, round_first, round_within, round<6, round<R, only_first}
+use Rattle.dissem.proofs.DissemStates.{told_is, equal, unequal}
+use Rattle.dissem.proofs.barrier.DissemMachine.step.Goals as goal
+use Rattle.dissem.proofs.barrier.DissemMachine.step.Goals.{then-at-eq1, else-at-eq1}
 
 pub bit-requires : goal.bit-requires
 bit-requires c =
-    let o = here c.args.w c.args.procs c.args.levels c.args.rounds c.requires.0 c.requires.1 c.requires.2 c.requires.4 c.due-due.ensures c.in-Step.is in
-    let p : Place c.args.self.flags.own c.args.w = search rules in
-    omega (arith, round<6 o, c.variable.ensures, view_at 1 p)
+    let p : Place c.args.self.own c.args.step.w = search rules in
+    omega (arith, round<6 c.requires.sound c.args.step.here c.requires.asked, c.variable.ensures, view_at 1 p)
 
-pub returns-then-bit-sense : goal.returns-then-bit-sense
-returns-then-bit-sense c =
-    let o = here c.args.w c.args.procs c.args.levels c.args.rounds c.requires.0 c.requires.1 c.requires.2 c.requires.4 c.due-due.ensures c.in-Step.is in
-    let p : Place c.args.self.flags.own c.args.w = search rules in
-    let q : Place c.args.self.flags.flags c.args.w = search rules in
-    let flag = read_flag q p c.variable.ensures c.bit.ensures in
-    let own = read_sense p c.sense.ensures in
-    let differs : c.bit.result ≡ c.sense.result → ⊥ = search rules in
-    dissem_spins o _ _ _ _ (search rules) (λ e. differs (sym flag ∙ e ∙ own)) refl refl (ap (told_of _) c.spin.ensures)
+pub returns-then-bit-sense-clause-stepped : goal.returns-then-bit-sense-clause-stepped
+unfolding step remote
+returns-then-bit-sense-clause-stepped c =
+    let p : Place c.args.self.own c.args.step.w = search rules in
+    let q : Place c.args.self.flags c.args.step.w = search rules in
+    let differs = unequal q p c.variable.ensures c.bit.ensures c.sense.ensures c.if-bit-sense.true in
+    let x = memory_of c.args.self in
+    let i = c.args.step.w in
+    stepped (waits false (eqb (x.round i + 1) (doublings c.args.s.now.procs)) x i) i (rw (c.if-at-eq2.true, ne_eqb _ _ differs) refl)
+    (ap memory_of c.stay.ensures.memory) refl c.requires.asked.hold c.stay.ensures.course c.stay.ensures.tells
 
-pub returns-then-o-levels : goal.returns-then-o-levels
-returns-then-o-levels c =
-    let o = here c.args.w c.args.procs c.args.levels c.args.rounds c.requires.0 c.requires.1 c.requires.2 c.requires.4 c.due-due.ensures c.in-Step.is in
-    let p : Place c.args.self.flags.own c.args.w = search rules in
-    let q : Place c.args.self.flags.flags c.args.w = search rules in
-    let flag = read_flag q p c.variable.ensures c.bit.ensures in
-    let own = read_sense p c.sense.ensures in
-    dissem_leaves o _ _ _ _ (search rules) (flag ∙ search rules ∙ sym own) (rw (view_at 1 p) (search rules)) c.leaves.ensures c.leaves-then-o-levels.ensures (ap (told_of _) c.last.ensures)
+pub returns-then-round-self-clause-stepped : goal.returns-then-round-self-clause-stepped
+unfolding step remote
+returns-then-round-self-clause-stepped c =
+    let p : Place c.args.self.own c.args.step.w = search rules in
+    let q : Place c.args.self.flags c.args.step.w = search rules in
+    let equals = equal q p c.variable.ensures c.bit.ensures c.sense.ensures c.if-bit-sense.false in
+    let last : (memory_of c.args.self).round c.args.step.w + 1 ≡ doublings c.args.s.now.procs = rw (view_at 1 p) (search rules) in
+    stepped (waits true true (memory_of c.args.self) c.args.step.w) c.args.step.w (rw (c.if-at-eq2.true, eq-eqb _ _ equals, eq-eqb _ _ last) refl)
+    (ap memory_of c.over.ensures.memory ∙ c.leaves.ensures.memory) refl c.requires.asked.hold c.over.ensures.course c.over.ensures.tells
 
-pub goes_on-requires : goal.goes_on-requires
-goes_on-requires c =
-    let o = here c.args.w c.args.procs c.args.levels c.args.rounds c.requires.0 c.requires.1 c.requires.2 c.requires.4 c.due-due.ensures c.in-Step.is in
-    (search rules, round<6 o)
+pub returns-then-round-self-clause-sound : goal.returns-then-round-self-clause-sound
+returns-then-round-self-clause-sound c =
+    sound_at c.requires.sound c.over.ensures.memory c.leaves.ensures.levels c.args.step.w 1 0 (ap (λ (z : Course). z.at) c.over.ensures.course)
+    (ap (λ z. z.round) c.leaves.ensures.memory) (λ e. refl) (λ n. absurd (n refl))
 
-pub returns-then-step-eq2 : goal.returns-then-step-eq2
-returns-then-step-eq2 c =
-    let o = here c.args.w c.args.procs c.args.levels c.args.rounds c.requires.0 c.requires.1 c.requires.2 c.requires.4 c.due-due.ensures c.in-Step.is in
-    let p : Place c.args.self.flags.own c.args.w = search rules in
-    let q : Place c.args.self.flags.flags c.args.w = search rules in
-    let flag = read_flag q p c.variable.ensures c.bit.ensures in
-    let own = read_sense p c.sense.ensures in
-    dissem_goes_on o _ _ _ _ (search rules) (flag ∙ search rules ∙ sym own) (rw (view_at 1 p) (search rules)) c.goes_on.ensures c.goes.ensures (ap (told_of _) c.later.ensures)
+pub goes_on-requires-clause-round : goal.goes_on-requires-clause-round
+goes_on-requires-clause-round c = round<6 c.requires.sound c.args.step.here c.requires.asked
 
-pub returns-then-procs-eq1 : goal.returns-then-procs-eq1
-returns-then-procs-eq1 c =
-    let o = here c.args.w c.args.procs c.args.levels c.args.rounds c.requires.0 c.requires.1 c.requires.2 c.requires.4 c.due-due.ensures c.in-Step.is in
-    dissem_alone o _ _ _ _ (search rules) refl c.leaves-then-procs-eq1.ensures (ap (told_of _) c.alone.ensures)
+pub returns-then-at-eq2-clause-stepped : goal.returns-then-at-eq2-clause-stepped
+unfolding step remote
+returns-then-at-eq2-clause-stepped c =
+    let p : Place c.args.self.own c.args.step.w = search rules in
+    let q : Place c.args.self.flags c.args.step.w = search rules in
+    let equals = equal q p c.variable.ensures c.bit.ensures c.sense.ensures c.if-bit-sense.false in
+    let more : (memory_of c.args.self).round c.args.step.w + 1 ≡ doublings c.args.s.now.procs → ⊥ = rw (view_at 1 p) (search rules) in
+    stepped (waits true false (memory_of c.args.self) c.args.step.w) c.args.step.w (rw (c.if-at-eq2.true, eq-eqb _ _ equals, ne_eqb _ _ more) refl)
+    (ap memory_of c.to.ensures.memory ∙ c.goes_on.ensures.memory) refl c.requires.asked.hold c.to.ensures.course c.to.ensures.tells
 
-pub partner-j-requires : goal.partner-j-requires
-partner-j-requires c =
-    let o = here c.args.w c.args.procs c.args.levels c.args.rounds c.requires.0 c.requires.1 c.requires.2 c.requires.4 c.due-due.ensures c.in-Step.is in
-    let p : Place c.args.self.flags.own c.args.w = search rules in
-    (search rules, search rules, rw (← view_at 1 p, ← o.rounds_are) (round<R o (search rules)))
+pub returns-then-at-eq2-clause-sound : goal.returns-then-at-eq2-clause-sound
+returns-then-at-eq2-clause-sound c =
+    let p : Place c.args.self.own c.args.step.w = search rules in
+    let more : (memory_of c.args.self).round c.args.step.w + 1 ≡ doublings c.args.s.now.procs → ⊥ = rw (view_at 1 p) (search rules) in
+    let within = round_within c.requires.sound c.args.step.here c.requires.asked (λ e. absurd (omega (arith, e, c.if-at-eq2.true))) in
+    sound_at c.requires.sound c.to.ensures.memory c.goes_on.ensures.levels c.args.step.w 3 ((memory_of c.args.self).round c.args.step.w + 1) (ap (λ (z : Course). z.at) c.to.ensures.course)
+    (ap (λ z. z.round) c.goes_on.ensures.memory) (λ e. absurd (omega (arith, e))) (λ n. omega (arith, more, within))
 
-pub tells-requires : goal.tells-requires
-tells-requires c =
-    let o = here c.args.w c.args.procs c.args.levels c.args.rounds c.requires.0 c.requires.1 c.requires.2 c.requires.4 c.due-due.ensures c.in-Step.is in
-    (search rules, search rules, round<6 o)
+pub returns-then-s-eq1-clause-stepped : goal.returns-then-s-eq1-clause-stepped
+unfolding step remote
+returns-then-s-eq1-clause-stepped c =
+    let first = only_first c.requires.sound c.args.step.here c.requires.asked c.if-s-eq1.true in
+    stepped (alone (memory_of c.args.self)) c.args.step.w (rw (first, c.if-s-eq1.true) refl)
+    (ap memory_of c.over-then-s-eq1.ensures.memory) (rw (eq-eqb c.args.step.w c.args.step.w refl) refl) c.requires.asked.hold c.over-then-s-eq1.ensures.course c.over-then-s-eq1.ensures.tells
 
-pub returns : goal.returns
-returns c =
-    let o = here c.args.w c.args.procs c.args.levels c.args.rounds c.requires.0 c.requires.1 c.requires.2 c.requires.4 c.due-due.ensures c.in-Step.is in
-    let p : Place c.args.self.flags.own c.args.w = search rules in
-    dissem_tells o _ _ _ _ _ c.tells.ensures c.goes-2.ensures (rw (view_at 1 p) c.partner-j.ensures.0) (search rules) (search rules) (ap (told_of _) c.going.ensures)
+pub returns-then-s-eq1-clause-sound : goal.returns-then-s-eq1-clause-sound
+returns-then-s-eq1-clause-sound c =
+    let x = memory_of c.args.self in
+    let first = only_first c.requires.sound c.args.step.here c.requires.asked c.if-s-eq1.true in
+    let round = round_first c.requires.sound c.args.step.here c.requires.asked first in
+    sound_at c.requires.sound c.over-then-s-eq1.ensures.memory refl c.args.step.w 1 0 (ap (λ (z : Course). z.at) c.over-then-s-eq1.ensures.course)
+    (sym (same_upd x.round c.args.step.w 0 (sym round))) (λ e. refl) (λ n. absurd (n refl))
+
+pub partner-j-requires-clause-round : goal.partner-j-requires-clause-round
+partner-j-requires-clause-round c =
+    let p : Place c.args.self.own c.args.step.w = search rules in
+    rw (c.round-2.ensures, ← view_at 1 p) (round<R c.requires.sound c.args.step.here c.requires.asked (search rules))
+
+pub tells-requires-clause-round : goal.tells-requires-clause-round
+tells-requires-clause-round c = round<6 c.requires.sound c.args.step.here c.requires.asked
+
+pub returns-clause-stepped : goal.returns-clause-stepped
+unfolding step remote
+returns-clause-stepped c =
+    let s = settings_of c.args.s.now in
+    let x = memory_of c.args.self in
+    let i = c.args.step.w in
+    let p : Place c.args.self.own c.args.step.w = search rules in
+    let j : c.partner-j.result ≡ partner s i (x.round i) = rw (view_at 1 p, ← c.round-2.ensures) c.partner-j.ensures.is in
+    let is : step s x c.args.step.at i ≡ tells (x.round i) (says_of c.if-at-eq1.says) s x i =
+    elim c.if-at-eq1.branch [
+      | then-at-eq1 w ↦ rw (w.if-at-eq1.true, ne_eqb _ _ c.if-s-eq1.false, w.says-is, round_first c.requires.sound c.args.step.here c.requires.asked w.if-at-eq1.true) refl
+      | else-at-eq1 w ↦ rw (ne_eqb _ _ w.if-at-eq1.false, ne_eqb _ _ c.if-at-eq2.false, w.says-is) refl
+    ] in
+    stepped (tells (x.round i) (says_of c.if-at-eq1.says) s x i) c.partner-j.result is
+    (ap memory_of c.to-2.ensures.memory ∙ c.tells.ensures.memory ∙ told_is s x i (says_of c.if-at-eq1.says) j) (rw j refl) c.requires.asked.hold c.to-2.ensures.course c.to-2.ensures.tells
+
+pub returns-clause-sound : goal.returns-clause-sound
+returns-clause-sound c =
+    let x = memory_of c.args.self in
+    sound_at c.requires.sound c.to-2.ensures.memory c.tells.ensures.levels c.args.step.w 2 (x.round c.args.step.w) (ap (λ (z : Course). z.at) c.to-2.ensures.course)
+    (ap (λ z. z.round) c.tells.ensures.memory ∙ sym (same_upd x.round c.args.step.w (x.round c.args.step.w) refl)) (λ e. absurd (omega (arith, e)))
+    (λ n. round<R c.requires.sound c.args.step.here c.requires.asked (search rules))
