@@ -32,6 +32,10 @@ module _ (procs i : ℕ) where
   stands_early : (k : ℕ) → 1 ≤ k → k ≤ 6 → Stands procs i k
   stands_early k l h = stands_at k l (omega arith) (λ e. omega arith) (λ e. omega arith) (λ e. omega arith)
 
+-- the step after one that reads a flag
+pub stands_next : (procs w c n : ℕ) → n ≤ 4 → Stands procs w (pick (ltb c procs) (2 + n) 6)
+stands_next procs w c n h = either (Stands procs w) (ltb c procs) (2 + n) 6 (stands_early procs w (2 + n) (omega arith) (omega arith)) (stands_early procs w 6 (omega arith) (omega arith))
+
 pub sound_first : (procs : ℕ) → Sound procs outset.at
 sound_first procs = record { stands = λ j. stands_early procs j 1 (omega arith) (omega arith) }
 
@@ -57,8 +61,8 @@ pub record Here (s : Settings) (w at k : ℕ) : Type 0 where
   pub stands : Stands s.procs w k
   pub past : 2 ≤ k
 
-pub here : {s : Settings} {w at k : ℕ} {f : ℕ → ℕ} → Sound s.procs f → f w ≡ at → k ≡ pick (eqb at 1) (pick (ltb (child w 0) s.procs) 2 6) at → Here s w at k
-here {s} {w} {at} {k} {f} sound is e = record { does = e; stands = (go (ℕ_discrete at 1)).0; past = (go (ℕ_discrete at 1)).1 }
+pub here : (s : Settings) {w at k : ℕ} {f : ℕ → ℕ} → Sound s.procs f → f w ≡ at → k ≡ pick (eqb at 1) (pick (ltb (child w 0) s.procs) 2 6) at → Here s w at k
+here s {w} {at} {k} {f} sound is e = record { does = e; stands = (go (ℕ_discrete at 1)).0; past = (go (ℕ_discrete at 1)).1 }
   where
     go : Dec (at ≡ 1) → Stands s.procs w k × (2 ≤ k)
     go (yes d) =
@@ -79,21 +83,22 @@ module _ {s : Settings} {w at k : ℕ} (o : Here s w at k) (x : State) where
       go (yes e) = rw (o.does, eq-eqb at 1 e) refl
       go (no n) = rw (o.does, ne_eqb at 1 n) refl
 
-  -- a step that the first turn does not do is not the first
-  pub not_first : k ≢ 2 → k ≢ 6 → eqb at 1 ≡ false
-  not_first n m = go (ℕ_discrete at 1)
+  -- a step past 6 is not the first
+  pub later : 7 ≤ k → eqb at 1 ≡ false
+  later h = go (ℕ_discrete at 1)
     where
       first : (b : Bool) → k ≡ pick b 2 6 → ⊥
-      first true e = n e
-      first false e = m e
+      first true e = omega arith
+      first false e = omega arith
 
       go : Dec (at ≡ 1) → eqb at 1 ≡ false
       go (yes e) = absurd (first (ltb (child w 0) s.procs) (rw (eq-eqb at 1 e) at o.does))
-      go (no z) = ne_eqb at 1 z
+      go (no n) = ne_eqb at 1 n
 
   -- a step that reads a flag
-  pub looks_is : k ≢ 6 → k ≢ 7 → k ≢ 8 → k ≢ 9 → k ≢ 10 → step s x at w ≡ looks (eqb (x.flag w (k - 2)) 1) (eqb at 1) (k - 2) s x w
-  looks_is n₆ n₇ n₈ n₉ n₁₀ = step_is ∙ rw (ne_eqb k 6 n₆, ne_eqb k 7 n₇, ne_eqb k 8 n₈, ne_eqb k 9 n₉, ne_eqb k 10 n₁₀) refl
+  pub looks_is : k ≤ 5 → step s x at w ≡ looks (eqb (x.flag w (k - 2)) 1) (eqb at 1) (k - 2) s x w
+  looks_is h =
+      step_is ∙ rw (ne_eqb k 6 (λ e. omega arith), ne_eqb k 7 (λ e. omega arith), ne_eqb k 8 (λ e. omega arith), ne_eqb k 9 (λ e. omega arith), ne_eqb k 10 (λ e. omega arith)) refl
 
 -- ---- the steps that end by the step that comes next
 

@@ -1,20 +1,22 @@
 -- The tree barrier's `step` meets its contract: each return is one of the rules' steps, and leaves everybody where it can be.
 use Rattle.std.proofs.Common.{true, false, ◌≡◌, ◌≢◌, ◌≤◌, ◌+◌, ◌-◌, ◌*◌, ℕ, Some, None, eqb, ltb, refl, sym, ap, ◌∙◌, eq-eqb, ne_eqb, rules, arith}
 use Rattle.rules.specs.Memory.{pick}
-use Rattle.rules.specs.Step.{reads, writes, remote}
+use Rattle.rules.specs.Step.{reads, writes, remote, again, to}
 use Rattle.rules.specs.Course.{Course}
-use Rattle.rules.specs.Tree.{left, right, looks, tells, waits, step}
+use Rattle.rules.specs.Tree.{State, child, left, right, parent, leaves, looks, tells, waits, woken}
 use Rattle.rules.proofs.Views.{Place}
 use Rattle.settings.specs.View.{settings_of}
 use Rattle.turns.proofs.Turning.{stepped}
 use Rattle.tree.specs.TreeView.{memory_of}
-use Rattle.tree.proofs.TreeStates.{Here, here, step_is, not_first, looks_is, sets_ends, wakes_ends, can_set, can_wake, stands_left, stepped_ends, sound_at, sound_ends}
+use Rattle.turns.specs.Saying.{says_of}
+use Rattle.tree.proofs.TreeWords.{flag_set, flag_clear, wake_is, sense_is}
+use Rattle.tree.proofs.TreeStates.{here, step_is, later, looks_is, sets_ends, wakes_ends, can_set, can_wake, stands_at, stands_next, stands_left, stands_right, stepped_ends, sound_at, sound_ends}
 use Rattle.tree.proofs.barrier.TreeMachine.step.Goals as goal
 
 pub returns-in-6-clause-stepped : goal.returns-in-6-clause-stepped
 unfolding remote
 returns-in-6-clause-stepped c =
-    let o = here c.requires.sound c.args.step.here c.doing-k.ensures in
+    let o = here (settings_of c.args.s.now) c.requires.sound c.args.step.here c.doing-k.ensures in
     let x = memory_of c.args.self in
     stepped_ends (memory_of c.sets.result) c.after_sets.result (writes c.args.step.w 0) c.args.step.w
     (step_is o x ∙ rw (c.in-6.is, c.after_sets.ensures) (sets_ends (eqb c.args.step.at 1) (settings_of c.args.s.now) x (memory_of c.sets.result) c.args.step.w c.sets.ensures)) refl
@@ -26,7 +28,110 @@ returns-in-6-clause-sound c =
     (sound_ends c.args.step.w c.requires.sound c.after_sets.result (eqb c.args.step.at 1) (memory_of c.sets.result) (rw c.after_sets.ensures (can_set c.args.s.now.procs c.args.step.w)))
 
 pub returns-in-7-clause-stepped : goal.returns-in-7-clause-stepped
-returns-in-7-clause-stepped c = ?
+unfolding remote
+returns-in-7-clause-stepped c =
+    let o = here (settings_of c.args.s.now) c.requires.sound c.args.step.here c.doing-k.ensures in
+    let x = memory_of c.args.self in
+    stepped (tells x c.args.step.w) (parent c.args.step.w) (step_is o x ∙ rw (later o x (omega (arith, c.in-7.is)), c.in-7.is) refl)
+    (ap memory_of c.to.ensures.memory ∙ c.clears.ensures) refl c.requires.asked.hold c.to.ensures.course c.to.ensures.tells
 
 pub returns-in-7-clause-sound : goal.returns-in-7-clause-sound
-returns-in-7-clause-sound c = ?
+returns-in-7-clause-sound c =
+    rw (ap (λ (z : Course). z.at) c.to.ensures.course)
+    (sound_at c.args.step.w c.requires.sound 8 (stands_at c.args.s.now.procs c.args.step.w 8 (omega arith) (omega arith) (λ e. omega arith) (λ e. omega arith) (λ e. omega arith)))
+
+pub returns-then-bit-clause-stepped : goal.returns-then-bit-clause-stepped
+unfolding remote
+returns-then-bit-clause-stepped c =
+    let o = here (settings_of c.args.s.now) c.requires.sound c.args.step.here c.doing-k.ensures in
+    let x = memory_of c.args.self in
+    let p : Place c.args.self.words c.args.step.w = search rules in
+    stepped (waits false (settings_of c.args.s.now) x c.args.step.w) c.args.step.w
+    (step_is o x ∙ rw (later o x (omega (arith, c.in-8.is)), c.in-8.is, wake_is p _ c.bit.ensures, sense_is p _ c.bit-in-8.ensures, ne_eqb _ _ c.if-bit.true) refl)
+    (ap memory_of c.stay.ensures.memory) refl c.requires.asked.hold c.stay.ensures.course c.stay.ensures.tells
+
+pub returns-else-bit-clause-stepped : goal.returns-else-bit-clause-stepped
+unfolding remote
+returns-else-bit-clause-stepped c =
+    let o = here (settings_of c.args.s.now) c.requires.sound c.args.step.here c.doing-k.ensures in
+    let x = memory_of c.args.self in
+    let p : Place c.args.self.words c.args.step.w = search rules in
+    let f : eqb c.args.step.at 1 ≡ false = later o x (omega (arith, c.in-8.is)) in
+    stepped_ends x c.waking.result (reads c.args.step.w 1) c.args.step.w
+    (step_is o x ∙ rw (f, c.in-8.is, wake_is p _ c.bit.ensures, sense_is p _ c.bit-in-8.ensures, eq-eqb _ _ c.if-bit.false, c.waking.ensures) (wakes_ends (left c.args.step.w) 9 false (reads c.args.step.w 1) (settings_of c.args.s.now) x c.args.step.w)) refl
+    c.requires.asked.hold c.ends-in-8.ensures.memory c.ends-in-8.ensures.course c.ends-in-8.ensures.tells
+
+pub returns-else-bit-clause-sound : goal.returns-else-bit-clause-sound
+returns-else-bit-clause-sound c =
+    rw (ap (λ (z : Course). z.at) c.ends-in-8.ensures.course)
+    (sound_ends c.args.step.w c.requires.sound c.waking.result (eqb c.args.step.at 1) (memory_of c.args.self)
+    (rw c.waking.ensures (can_wake c.args.s.now.procs c.args.step.w (left c.args.step.w) 9 (stands_left c.args.s.now.procs c.args.step.w))))
+
+pub returns-in-9-clause-stepped : goal.returns-in-9-clause-stepped
+unfolding remote
+returns-in-9-clause-stepped c =
+    let o = here (settings_of c.args.s.now) c.requires.sound c.args.step.here c.doing-k.ensures in
+    let x = memory_of c.args.self in
+    let f : eqb c.args.step.at 1 ≡ false = later o x (omega (arith, c.in-9.is)) in
+    let same : left c.args.step.w + 1 ≡ right c.args.step.w = omega arith in
+    stepped_ends (memory_of c.wakes.result) c.waking-in-9.result (writes (left c.args.step.w) 1) (left c.args.step.w)
+    (step_is o x ∙ rw (f, c.in-9.is, c.wakes.ensures, c.waking-in-9.ensures, same) (wakes_ends (right c.args.step.w) 10 false (writes (left c.args.step.w) 1) (settings_of c.args.s.now) (woken (left c.args.step.w) x c.args.step.w) c.args.step.w)) refl
+    c.requires.asked.hold c.ends-in-9.ensures.memory c.ends-in-9.ensures.course c.ends-in-9.ensures.tells
+
+pub returns-in-9-clause-sound : goal.returns-in-9-clause-sound
+returns-in-9-clause-sound c =
+    let same : left c.args.step.w + 1 ≡ right c.args.step.w = omega arith in
+    rw (ap (λ (z : Course). z.at) c.ends-in-9.ensures.course)
+    (sound_ends c.args.step.w c.requires.sound c.waking-in-9.result (eqb c.args.step.at 1) (memory_of c.wakes.result)
+    (rw (c.waking-in-9.ensures, same) (can_wake c.args.s.now.procs c.args.step.w (right c.args.step.w) 10 (stands_right c.args.s.now.procs c.args.step.w))))
+
+pub returns-in-10-clause-stepped : goal.returns-in-10-clause-stepped
+unfolding remote
+returns-in-10-clause-stepped c =
+    let o = here (settings_of c.args.s.now) c.requires.sound c.args.step.here c.doing-k.ensures in
+    let x = memory_of c.args.self in
+    let f : eqb c.args.step.at 1 ≡ false = later o x (omega (arith, c.in-10.is)) in
+    stepped_ends (memory_of c.wakes-in-10.result) None (writes (right c.args.step.w) 1) (right c.args.step.w)
+    (step_is o x ∙ rw (f, c.in-10.is) (ap (λ (y : State). leaves false (writes (right c.args.step.w) 1) y c.args.step.w) (sym c.wakes-in-10.ensures))) refl
+    c.requires.asked.hold c.ends-in-10.ensures.memory c.ends-in-10.ensures.course c.ends-in-10.ensures.tells
+
+pub returns-in-10-clause-sound : goal.returns-in-10-clause-sound
+returns-in-10-clause-sound c =
+    rw (ap (λ (z : Course). z.at) c.ends-in-10.ensures.course)
+    (sound_ends c.args.step.w c.requires.sound None (eqb c.args.step.at 1) (memory_of c.wakes-in-10.result) tt)
+
+pub returns-then-bit-eq0-clause-stepped : goal.returns-then-bit-eq0-clause-stepped
+unfolding remote
+returns-then-bit-eq0-clause-stepped c =
+    let o = here (settings_of c.args.s.now) c.requires.sound c.args.step.here c.doing-k.ensures in
+    let x = memory_of c.args.self in
+    let p : Place c.args.self.words c.args.step.w = search rules in
+    let early : c.doing-k.result ≤ 5 = omega (arith, o.stands.high, c.in_default) in
+    let same : 2 + (c.doing-k.result - 2) ≡ c.doing-k.result = omega (arith, o.past) in
+    stepped (record { memory = x; access = reads c.args.step.w 0; says = says_of c.arrival.result; then = again c.doing-k.result }) c.args.step.w
+    (looks_is o x early ∙ rw (eq-eqb _ _ (flag_set p _ _ o.past c.bit-in_default.ensures c.if-bit-eq0.true), same, c.arrival.ensures) refl)
+    (ap memory_of c.again.ensures.memory) refl c.requires.asked.hold c.again.ensures.course c.again.ensures.tells
+
+pub returns-then-bit-eq0-clause-sound : goal.returns-then-bit-eq0-clause-sound
+returns-then-bit-eq0-clause-sound c =
+    let o = here (settings_of c.args.s.now) c.requires.sound c.args.step.here c.doing-k.ensures in
+    rw (ap (λ (z : Course). z.at) c.again.ensures.course) (sound_at c.args.step.w c.requires.sound c.doing-k.result o.stands)
+
+pub returns-else-bit-eq0-clause-stepped : goal.returns-else-bit-eq0-clause-stepped
+unfolding remote
+returns-else-bit-eq0-clause-stepped c =
+    let o = here (settings_of c.args.s.now) c.requires.sound c.args.step.here c.doing-k.ensures in
+    let x = memory_of c.args.self in
+    let p : Place c.args.self.words c.args.step.w = search rules in
+    let early : c.doing-k.result ≤ 5 = omega (arith, o.stands.high, c.in_default) in
+    let same : c.doing-k.result - 2 + 1 ≡ c.doing-k.result - 1 = omega (arith, o.past) in
+    stepped (record { memory = x; access = reads c.args.step.w 0; says = says_of c.arrival-in_default.result; then = to c.reading.result }) c.args.step.w
+    (looks_is o x early ∙ rw (ne_eqb _ _ (flag_clear p _ _ o.past c.bit-in_default.ensures c.if-bit-eq0.false), same, c.arrival-in_default.ensures, c.reading.ensures) refl)
+    (ap memory_of c.to-in_default.ensures.memory) refl c.requires.asked.hold c.to-in_default.ensures.course c.to-in_default.ensures.tells
+
+pub returns-else-bit-eq0-clause-sound : goal.returns-else-bit-eq0-clause-sound
+returns-else-bit-eq0-clause-sound c =
+    let o = here (settings_of c.args.s.now) c.requires.sound c.args.step.here c.doing-k.ensures in
+    let early : c.doing-k.result ≤ 5 = omega (arith, o.stands.high, c.in_default) in
+    rw (ap (λ (z : Course). z.at) c.to-in_default.ensures.course)
+    (sound_at c.args.step.w c.requires.sound c.reading.result (rw c.reading.ensures (stands_next c.args.s.now.procs c.args.step.w (child c.args.step.w (c.doing-k.result - 1)) (c.doing-k.result - 1) (omega (arith, early)))))
