@@ -1,2 +1,2 @@
-pub mod TreeNodes
-pub mod TreeTurns
+pub mod TreeStates
+pub mod TreeWords

@@ -1,7 +1,8 @@
 -- What the code's tree barrier stands for in the rules.
-use Rattle.std.specs.Prelude.{ℕ, ◌+◌, ◌-◌, ◌≤◌, ◌<◌, ◌≡◌, ◌≢◌, Bool, true, false, eqb}
-use Rattle.rules.specs.Memory.{pick, upd}
-use Rattle.rules.specs.Tree.{State, left, right}
+use Rattle.std.specs.Prelude.{ℕ, ◌+◌, ◌-◌, ◌≤◌, ◌<◌, ◌≡◌, ◌≢◌, Bool, Option, Some, None}
+use Rattle.rules.specs.Memory.{upd}
+use Rattle.rules.specs.Step.{Access, to, Step}
+use Rattle.rules.specs.Tree.{State, left, right, goes_on, leaves}
 use Rattle.rules.proofs.Views.{view}
 use Rattle.tree.specs.declared.barrier.Tree.{Tree}
 use Rattle.turns.specs.BitView.{bits}
@@ -28,6 +29,11 @@ memory_of n = record {
 -- processor i's own sense is toggled
 abbrev pub toggled : State → ℕ → State
 toggled x i = record { flag = x.flag; wake = x.wake; sense = upd x.sense i (1 - x.sense i) }
+
+-- how a step ends: the passage goes on at the next step, or there is none and it is over
+abbrev pub ends : (next : Option ℕ) → (first : Bool) → Access → State → ℕ → Step State
+ends None first access x i = leaves first access x i
+ends (Some k) first access x i = goes_on first access (to k) x
 
 -- ---- where processors can be
 

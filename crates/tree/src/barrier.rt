@@ -1,17 +1,17 @@
 // The tree barrier (figure 12).
-ghost use Rattle.std.specs.Prelude.{◌≡◌, ◌<◌, ◌+◌, eqb, ltb};
+ghost use Rattle.std.specs.Prelude.{◌≡◌, ◌<◌, ◌≤◌, ◌+◌, Some, None, IfSome, eqb, ltb};
 ghost use Rattle.rules.specs.Memory.{pick, upd, each};
 ghost use Rattle.rules.specs.Tree.{machine, child};
-ghost use Rattle.rules.specs.Step.{arrive, leave, nothing, one, two};
+ghost use Rattle.rules.specs.Step.{none, arrive, leave, nothing, one, two};
 ghost use Rattle.turns.specs.Saying.{says_of};
-ghost use Rattle.tree.specs.TreeView.{memory_of, toggled, Sound};
+ghost use Rattle.turns.specs.View.{course_of, told_of};
+ghost use Rattle.turns.specs.Stepping.{goes_on, told_so};
+ghost use Rattle.tree.specs.TreeView.{memory_of, toggled, ends, Sound};
 
 use settings::Settings;
 use turns::{Kind, Machine, Says, State, Step, bit, with_bit};
 
-// The steps after the flags are read, as in the rules. OVER is none: the passage is done.
-const OVER: u8 = 0;
-
+// The steps after the flags are read, as in the rules.
 const SETS: u8 = 6;
 
 const TELLS: u8 = 7;
@@ -56,19 +56,19 @@ fn doing(step: u8, w: u16, procs: u16) -> u8
     step
 }
 
-// The step at which child c is woken, or none where it is absent.
-fn waking(c: u16, step: u8, procs: u16) -> u8
-    ensures { result ≡ pick (ltb c procs) step 0 }
+// The step at which child c is woken, or none where it is absent: then the passage is over.
+fn waking(c: u16, step: u8, procs: u16) -> Option<u8>
+    ensures { result ≡ pick (ltb c procs) (Some step) None }
 {
-    if c < procs { step } else { OVER }
+    (c < procs).then_some(step)
 }
 
 // The step after the flags are set up. Processor 0 has nobody to tell.
-fn after_sets(w: u16, procs: u16) -> u8
-    ensures { result ≡ pick (eqb w 0) (pick (ltb 1 procs) 9 0) 7 }
+fn after_sets(w: u16, procs: u16) -> Option<u8>
+    ensures { result ≡ pick (eqb w 0) (pick (ltb 1 procs) (Some 9) None) (Some 7) }
 {
     if w != 0 {
-        return TELLS;
+        return Some(TELLS);
     }
     waking(1, WAKES_LEFT, procs)
 }
@@ -136,14 +136,18 @@ impl Tree {
         Tree { words }
     }
 
-    // How processor w's turn ends, by the step that comes next: the passage goes on, or it leaves.
-    fn ends(self, step: Step, next: u8, owner: u16) -> State<Tree> {
-        let w = step.w;
+    // How a step ends: the passage goes on at the next step, or there is none and it is over.
+    fn ends(self, step: Step, next: Option<u8>, owner: u16) -> State<Tree>
+        requires { IfSome next (λ k. k ≤ 10) }
+        ensures memory { memory_of result.memory ≡ (ends next (eqb step.at 1) none (memory_of self) step.w).memory }
+        ensures course { course_of result.course ≡ goes_on (course_of step.course) step.w (ends next (eqb step.at 1) none (memory_of self) step.w).says (ends next (eqb step.at 1) none (memory_of self) step.w).then step.hold }
+        ensures tells { told_of step.w result.made ≡ told_so step.w step.at owner (ends next (eqb step.at 1) none (memory_of self) step.w).says (ends next (eqb step.at 1) none (memory_of self) step.w).then }
+    {
         let first = step.at == 1;
-        if next == OVER {
-            return step.over(self.toggles(w as usize), owner, leaving(first));
+        if let Some(at) = next {
+            return step.to(self, owner, arrival(first), at);
         }
-        step.to(self, owner, arrival(first), next)
+        step.over(self.toggles(step.w as usize), owner, leaving(first))
     }
 }
 
@@ -191,13 +195,13 @@ impl Machine for Tree {
             }
             WAKES_RIGHT => {
                 let c = 2 * w + 2;
-                self.wakes(i, c as usize).ends(step, OVER, c)
+                self.wakes(i, c as usize).ends(step, None, c)
             }
             _ => {
                 if bit(word, k) == 0 {
                     return step.again(self, w, arrival(first), k);
                 }
-                self.ends(step, reading(w, k as u16 - 1, s.procs), w)
+                step.to(self, w, arrival(first), reading(w, k as u16 - 1, s.procs))
             }
         }
     }

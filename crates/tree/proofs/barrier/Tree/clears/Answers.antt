@@ -1,8 +1,8 @@
--- `tree::barrier::Nodes::clears` meets its contract.
+-- `tree::barrier::Tree::clears` meets its contract.
 use borrow.Author.Rules.{rules}
 use Rattle.rules.proofs.Views.{Place}
-use Rattle.tree.proofs.TreeNodes.{flag_cleared}
-use Rattle.tree.proofs.barrier.Nodes.clears.Goals as goal
+use Rattle.tree.proofs.TreeWords.{flag_cleared}
+use Rattle.tree.proofs.barrier.Tree.clears.Goals as goal
 
 pub returns : goal.returns
 returns c =

@@ -1,9 +1,9 @@
--- `tree::barrier::Nodes::sets` meets its contract.
+-- `tree::barrier::Tree::sets` meets its contract.
 use borrow.Author.Rules.{rules}
 use mathlib.Core.Path.{refl}
 use Rattle.rules.proofs.Views.{Place}
-use Rattle.tree.proofs.TreeNodes.{flags_set}
-use Rattle.tree.proofs.barrier.Nodes.sets.Goals as goal
+use Rattle.tree.proofs.TreeWords.{flags_set}
+use Rattle.tree.proofs.barrier.Tree.sets.Goals as goal
 
 pub returns : goal.returns
 returns c =

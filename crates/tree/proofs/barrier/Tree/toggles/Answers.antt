@@ -1,10 +1,10 @@
--- `tree::barrier::Nodes::toggles` meets its contract.
+-- `tree::barrier::Tree::toggles` meets its contract.
 use borrow.Author.Rules.{rules}
 use native.Mathlib.Omega.{arith}
 use Rattle.rules.proofs.Views.{Place}
 use Rattle.turns.proofs.Words.{bit<}
-use Rattle.tree.proofs.TreeNodes.{sense_stored, sense_is}
-use Rattle.tree.proofs.barrier.Nodes.toggles.Goals as goal
+use Rattle.tree.proofs.TreeWords.{sense_stored, sense_is}
+use Rattle.tree.proofs.barrier.Tree.toggles.Goals as goal
 
 pub overflow_sub-bit : goal.overflow_sub-bit
 overflow_sub-bit c =

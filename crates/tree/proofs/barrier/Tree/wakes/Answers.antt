@@ -1,9 +1,9 @@
--- `tree::barrier::Nodes::wakes` meets its contract.
+-- `tree::barrier::Tree::wakes` meets its contract.
 use borrow.Author.Rules.{rules}
 use Rattle.rules.proofs.Views.{Place}
 use Rattle.turns.proofs.Words.{bit<}
-use Rattle.tree.proofs.TreeNodes.{wake_stored, sense_is}
-use Rattle.tree.proofs.barrier.Nodes.wakes.Goals as goal
+use Rattle.tree.proofs.TreeWords.{wake_stored, sense_is}
+use Rattle.tree.proofs.barrier.Tree.wakes.Goals as goal
 
 pub with_bit-requires : goal.with_bit-requires
 with_bit-requires c =

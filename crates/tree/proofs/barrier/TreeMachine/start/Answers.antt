@@ -1,8 +1,11 @@
--- `tree::barrier::Tree::start` meets its contract.
-use Rattle.tree.proofs.TreeNodes.{first_nodes}
-use Rattle.tree.proofs.TreeTurns.{sound_first}
-use Rattle.tree.proofs.barrier.Tree.start.Goals as goal
+-- The tree barrier's `start` meets its contract.
+use Rattle.settings.specs.View.{settings_of}
+use Rattle.tree.proofs.TreeWords.{first_words}
+use Rattle.tree.proofs.TreeStates.{sound_first}
+use Rattle.tree.proofs.barrier.TreeMachine.start.Goals as goal
 
-pub returns : goal.returns
-returns c =
-    (record { memory = λ s p. first_nodes s; outset = c.start.ensures }, λ procs. sound_first procs _ c.start.ensures)
+pub returns-clause-memory : goal.returns-clause-memory
+returns-clause-memory c = first_words (settings_of c.args._s.now)
+
+pub returns-clause-sound : goal.returns-clause-sound
+returns-clause-sound c = sound_first _

@@ -1,161 +1,137 @@
--- `tree::barrier::Tree::turn` meets its contract: each return is one way that a turn goes.
-use borrow.Author.Rules.{rules}
-use mathlib.Core.Path.{◌≡◌, refl, sym, ap, ◌∙◌}
-use mathlib.Core.Logic.{◌≢◌}
-use Prim.Native.Nat.{◌≤◌, ℕ}
-use native.Mathlib.Omega.{arith}
-use lib.Dec.{eqb, ltb}
+-- The tree barrier's `step` meets its contract: each return is one of the rules' steps, and leaves everybody where it can be.
+use Rattle.std.proofs.Common.{true, false, ◌≡◌, ◌≢◌, ◌≤◌, ◌+◌, ◌-◌, ◌*◌, ℕ, Some, None, eqb, ltb, refl, sym, ap, ◌∙◌, eq-eqb, ne_eqb, rules, arith}
 use Rattle.rules.specs.Memory.{pick}
+use Rattle.rules.specs.Step.{reads, writes, remote, again, to}
 use Rattle.rules.specs.Course.{Course}
-use Rattle.rules.specs.Tree.{child}
+use Rattle.rules.specs.Tree.{State, child, left, right, parent, leaves, looks, tells, waits, woken}
 use Rattle.rules.proofs.Views.{Place}
-use Rattle.turns.specs.View.{course_of, told_of, Dues}
-use Rattle.turns.specs.declared.course.Due.{Due}
-use Rattle.turns.specs.declared.course.Due.TheVariants as due
-use Rattle.turns.proofs.Courses.{held_some}
-use Rattle.turns.proofs.Turning.{told_none}
-use Rattle.tree.specs.TreeView.{Sound}
-use Rattle.tree.proofs.TreeNodes.{flag_set, flag_clear, wake_is, sense_is}
-use Rattle.tree.proofs.TreeTurns.{Here, here_stands, early, sets<, wakes<, left<, looks<, tree_holds, tree_idles, tree_sets, tree_tells, tree_sleeps, tree_wakes, tree_left, tree_right, tree_looks, tree_spins}
-use Rattle.tree.proofs.barrier.Tree.turn.Goals as goal
+use Rattle.settings.specs.View.{settings_of}
+use Rattle.turns.proofs.Turning.{stepped}
+use Rattle.tree.specs.TreeView.{memory_of}
+use Rattle.turns.specs.Saying.{says_of}
+use Rattle.tree.proofs.TreeWords.{flag_set, flag_clear, wake_is, sense_is}
+use Rattle.tree.proofs.TreeStates.{here, step_is, later, looks_is, sets_ends, wakes_ends, can_set, can_wake, stands_at, stands_next, stands_left, stands_right, stepped_ends, sound_at, sound_ends}
+use Rattle.tree.proofs.barrier.TreeMachine.step.Goals as goal
 
--- a step of the passage, as the laws take it
-here : (w procs rounds : ℕ) {c : Course} {at k : ℕ} {what : Due} → Sound procs c → Dues c w rounds what → what ≡ due.Step at
-    → k ≡ pick (eqb at 1) (pick (ltb (child w 0) procs) 2 6) at → Here w procs rounds c at k
-here w procs rounds s d i e = record { sound = s; what = _; dues = d; is = i; does = e }
+pub returns-in-6-clause-stepped : goal.returns-in-6-clause-stepped
+unfolding remote
+returns-in-6-clause-stepped c =
+    let o = here (settings_of c.args.s.now) c.requires.sound c.args.step.here c.doing-k.ensures in
+    let x = memory_of c.args.self in
+    stepped_ends (memory_of c.sets.result) c.after_sets.result (writes c.args.step.w 0) c.args.step.w
+    (step_is o x ∙ rw (c.in-6.is, c.after_sets.ensures) (sets_ends (eqb c.args.step.at 1) (settings_of c.args.s.now) x (memory_of c.sets.result) c.args.step.w c.sets.ensures)) refl
+    c.requires.asked.hold c.ends.ensures.memory c.ends.ensures.course c.ends.ensures.tells
 
--- who tells has a parent
-parented : {w procs rounds : ℕ} {c : Course} {at k : ℕ} → Here w procs rounds c at k → k ≡ 7 → 1 ≤ w
-parented o e = omega (arith, (here_stands o).0.tells e)
+pub returns-in-6-clause-sound : goal.returns-in-6-clause-sound
+returns-in-6-clause-sound c =
+    rw (ap (λ (z : Course). z.at) c.ends.ensures.course)
+    (sound_ends c.args.step.w c.requires.sound c.after_sets.result (eqb c.args.step.at 1) (memory_of c.sets.result) (rw c.after_sets.ensures (can_set c.args.s.now.procs c.args.step.w)))
 
--- a step that reads a flag
-looking : {w procs rounds : ℕ} {c : Course} {at k : ℕ} → Here w procs rounds c at k → k ≢ 6 → k ≢ 7 → k ≢ 8 → k ≢ 9 → k ≢ 10 → (2 ≤ k) × (k ≤ 5)
-looking o n₆ n₇ n₈ n₉ n₁₀ = let s = here_stands o in (s.1, early _ s.0.high n₆ n₇ n₈ n₉ n₁₀)
+pub returns-in-7-clause-stepped : goal.returns-in-7-clause-stepped
+unfolding remote
+returns-in-7-clause-stepped c =
+    let o = here (settings_of c.args.s.now) c.requires.sound c.args.step.here c.doing-k.ensures in
+    let x = memory_of c.args.self in
+    stepped (tells x c.args.step.w) (parent c.args.step.w) (step_is o x ∙ rw (later o x (omega (arith, c.in-7.is)), c.in-7.is) refl)
+    (ap memory_of c.to.ensures.memory ∙ c.clears.ensures) refl c.requires.asked.hold c.to.ensures.course c.to.ensures.tells
 
-pub held-requires : goal.held-requires
-held-requires c =
-    let k = course_of c.args.self.course in
-    (search rules, held_some c.args.self.course.at c.args.self.course.left k.at k.done _ _ c.due-due.result c.due-due.ensures c.in-Hold.is)
+pub returns-in-7-clause-sound : goal.returns-in-7-clause-sound
+returns-in-7-clause-sound c =
+    rw (ap (λ (z : Course). z.at) c.to.ensures.course)
+    (sound_at c.args.step.w c.requires.sound 8 (stands_at c.args.s.now.procs c.args.step.w 8 (omega arith) (omega arith) (λ e. omega arith) (λ e. omega arith) (λ e. omega arith)))
 
-pub returns-in-Hold : goal.returns-in-Hold
-returns-in-Hold c =
-    tree_holds _ _ _ _ _ _ (search rules) c.due-due.result c.due-due.ensures _ _ _ (search rules) refl c.held.ensures (told_none _ _ _ c.none.ensures)
+pub returns-then-bit-clause-stepped : goal.returns-then-bit-clause-stepped
+unfolding remote
+returns-then-bit-clause-stepped c =
+    let o = here (settings_of c.args.s.now) c.requires.sound c.args.step.here c.doing-k.ensures in
+    let x = memory_of c.args.self in
+    let p : Place c.args.self.words c.args.step.w = search rules in
+    stepped (waits false (settings_of c.args.s.now) x c.args.step.w) c.args.step.w
+    (step_is o x ∙ rw (later o x (omega (arith, c.in-8.is)), c.in-8.is, wake_is p _ c.bit.ensures, sense_is p _ c.bit-in-8.ensures, ne_eqb _ _ c.if-bit.true) refl)
+    (ap memory_of c.stay.ensures.memory) refl c.requires.asked.hold c.stay.ensures.course c.stay.ensures.tells
 
-pub returns-in-Idle : goal.returns-in-Idle
-returns-in-Idle c =
-    tree_idles _ _ _ _ _ _ (search rules) c.due-due.result c.due-due.ensures _ _ _ (search rules) refl refl (told_none _ _ _ c.none-in-Idle.ensures)
+pub returns-else-bit-clause-stepped : goal.returns-else-bit-clause-stepped
+unfolding remote
+returns-else-bit-clause-stepped c =
+    let o = here (settings_of c.args.s.now) c.requires.sound c.args.step.here c.doing-k.ensures in
+    let x = memory_of c.args.self in
+    let p : Place c.args.self.words c.args.step.w = search rules in
+    let f : eqb c.args.step.at 1 ≡ false = later o x (omega (arith, c.in-8.is)) in
+    stepped_ends x c.waking.result (reads c.args.step.w 1) c.args.step.w
+    (step_is o x ∙ rw (f, c.in-8.is, wake_is p _ c.bit.ensures, sense_is p _ c.bit-in-8.ensures, eq-eqb _ _ c.if-bit.false, c.waking.ensures) (wakes_ends (left c.args.step.w) 9 false (reads c.args.step.w 1) (settings_of c.args.s.now) x c.args.step.w)) refl
+    c.requires.asked.hold c.ends-in-8.ensures.memory c.ends-in-8.ensures.course c.ends-in-8.ensures.tells
 
-pub ends-requires : goal.ends-requires
-ends-requires c =
-    let o = here c.args.w c.args.procs c.args.rounds c.requires.3 c.due-due.ensures c.in-Step.is c.doing-k.ensures in
-    (search rules, sets< o _ c.after_sets-next.ensures, search rules)
+pub returns-else-bit-clause-sound : goal.returns-else-bit-clause-sound
+returns-else-bit-clause-sound c =
+    rw (ap (λ (z : Course). z.at) c.ends-in-8.ensures.course)
+    (sound_ends c.args.step.w c.requires.sound c.waking.result (eqb c.args.step.at 1) (memory_of c.args.self)
+    (rw c.waking.ensures (can_wake c.args.s.now.procs c.args.step.w (left c.args.step.w) 9 (stands_left c.args.s.now.procs c.args.step.w))))
 
-pub returns-in-6 : goal.returns-in-6
-returns-in-6 c =
-    let o = here c.args.w c.args.procs c.args.rounds c.requires.3 c.due-due.ensures c.in-Step.is c.doing-k.ensures in
-    tree_sets o _ _ _ _ _ (search rules) c.after_sets-next.ensures c.sets.ensures c.ends.ensures
+pub returns-in-9-clause-stepped : goal.returns-in-9-clause-stepped
+unfolding remote
+returns-in-9-clause-stepped c =
+    let o = here (settings_of c.args.s.now) c.requires.sound c.args.step.here c.doing-k.ensures in
+    let x = memory_of c.args.self in
+    let f : eqb c.args.step.at 1 ≡ false = later o x (omega (arith, c.in-9.is)) in
+    let same : left c.args.step.w + 1 ≡ right c.args.step.w = omega arith in
+    stepped_ends (memory_of c.wakes.result) c.waking-in-9.result (writes (left c.args.step.w) 1) (left c.args.step.w)
+    (step_is o x ∙ rw (f, c.in-9.is, c.wakes.ensures, c.waking-in-9.ensures, same) (wakes_ends (right c.args.step.w) 10 false (writes (left c.args.step.w) 1) (settings_of c.args.s.now) (woken (left c.args.step.w) x c.args.step.w) c.args.step.w)) refl
+    c.requires.asked.hold c.ends-in-9.ensures.memory c.ends-in-9.ensures.course c.ends-in-9.ensures.tells
 
-pub overflow_sub-parent : goal.overflow_sub-parent
-overflow_sub-parent c =
-    let o = here c.args.w c.args.procs c.args.rounds c.requires.3 c.due-due.ensures c.in-Step.is c.doing-k.ensures in
-    parented o (search rules)
+pub returns-in-9-clause-sound : goal.returns-in-9-clause-sound
+returns-in-9-clause-sound c =
+    let same : left c.args.step.w + 1 ≡ right c.args.step.w = omega arith in
+    rw (ap (λ (z : Course). z.at) c.ends-in-9.ensures.course)
+    (sound_ends c.args.step.w c.requires.sound c.waking-in-9.result (eqb c.args.step.at 1) (memory_of c.wakes.result)
+    (rw (c.waking-in-9.ensures, same) (can_wake c.args.s.now.procs c.args.step.w (right c.args.step.w) 10 (stands_right c.args.s.now.procs c.args.step.w))))
 
-pub overflow_sub-w : goal.overflow_sub-w
-overflow_sub-w c =
-    let o = here c.args.w c.args.procs c.args.rounds c.requires.3 c.due-due.ensures c.in-Step.is c.doing-k.ensures in
-    parented o (search rules)
+pub returns-in-10-clause-stepped : goal.returns-in-10-clause-stepped
+unfolding remote
+returns-in-10-clause-stepped c =
+    let o = here (settings_of c.args.s.now) c.requires.sound c.args.step.here c.doing-k.ensures in
+    let x = memory_of c.args.self in
+    let f : eqb c.args.step.at 1 ≡ false = later o x (omega (arith, c.in-10.is)) in
+    stepped_ends (memory_of c.wakes-in-10.result) None (writes (right c.args.step.w) 1) (right c.args.step.w)
+    (step_is o x ∙ rw (f, c.in-10.is) (ap (λ (y : State). leaves false (writes (right c.args.step.w) 1) y c.args.step.w) (sym c.wakes-in-10.ensures))) refl
+    c.requires.asked.hold c.ends-in-10.ensures.memory c.ends-in-10.ensures.course c.ends-in-10.ensures.tells
 
-pub returns-in-7 : goal.returns-in-7
-returns-in-7 c =
-    let o = here c.args.w c.args.procs c.args.rounds c.requires.3 c.due-due.ensures c.in-Step.is c.doing-k.ensures in
-    tree_tells o _ _ _ _ _ (search rules) c.clears.ensures c.goes.ensures (ap (told_of _) c.later.ensures)
+pub returns-in-10-clause-sound : goal.returns-in-10-clause-sound
+returns-in-10-clause-sound c =
+    rw (ap (λ (z : Course). z.at) c.ends-in-10.ensures.course)
+    (sound_ends c.args.step.w c.requires.sound None (eqb c.args.step.at 1) (memory_of c.wakes-in-10.result) tt)
 
-pub returns-then-bit : goal.returns-then-bit
-returns-then-bit c =
-    let o = here c.args.w c.args.procs c.args.rounds c.requires.3 c.due-due.ensures c.in-Step.is c.doing-k.ensures in
-    let p : Place c.args.self.nodes.words c.args.w = search rules in
-    let n : c.bit.result ≡ c.bit-in-8.result → ⊥ = search rules in
-    tree_sleeps o _ _ _ _ _ (search rules) (λ e. n (sym (wake_is p _ c.bit.ensures) ∙ e ∙ sense_is p _ c.bit-in-8.ensures)) refl refl (ap (told_of _) c.spin.ensures)
+pub returns-then-bit-eq0-clause-stepped : goal.returns-then-bit-eq0-clause-stepped
+unfolding remote
+returns-then-bit-eq0-clause-stepped c =
+    let o = here (settings_of c.args.s.now) c.requires.sound c.args.step.here c.doing-k.ensures in
+    let x = memory_of c.args.self in
+    let p : Place c.args.self.words c.args.step.w = search rules in
+    let early : c.doing-k.result ≤ 5 = omega (arith, o.stands.high, c.in_default) in
+    let same : 2 + (c.doing-k.result - 2) ≡ c.doing-k.result = omega (arith, o.past) in
+    stepped (record { memory = x; access = reads c.args.step.w 0; says = says_of c.arrival.result; then = again c.doing-k.result }) c.args.step.w
+    (looks_is o x early ∙ rw (eq-eqb _ _ (flag_set p _ _ o.past c.bit-in_default.ensures c.if-bit-eq0.true), same, c.arrival.ensures) refl)
+    (ap memory_of c.again.ensures.memory) refl c.requires.asked.hold c.again.ensures.course c.again.ensures.tells
 
-pub ends-requires-in-8 : goal.ends-requires-in-8
-ends-requires-in-8 c =
-    let o = here c.args.w c.args.procs c.args.rounds c.requires.3 c.due-due.ensures c.in-Step.is c.doing-k.ensures in
-    (search rules, wakes< o _ c.waking-next.ensures, search rules)
+pub returns-then-bit-eq0-clause-sound : goal.returns-then-bit-eq0-clause-sound
+returns-then-bit-eq0-clause-sound c =
+    let o = here (settings_of c.args.s.now) c.requires.sound c.args.step.here c.doing-k.ensures in
+    rw (ap (λ (z : Course). z.at) c.again.ensures.course) (sound_at c.args.step.w c.requires.sound c.doing-k.result o.stands)
 
-pub returns-in-8 : goal.returns-in-8
-returns-in-8 c =
-    let o = here c.args.w c.args.procs c.args.rounds c.requires.3 c.due-due.ensures c.in-Step.is c.doing-k.ensures in
-    let p : Place c.args.self.nodes.words c.args.w = search rules in
-    let same : c.bit.result ≡ c.bit-in-8.result = search rules in
-    tree_wakes o _ _ _ _ _ (search rules) (wake_is p _ c.bit.ensures ∙ same ∙ sym (sense_is p _ c.bit-in-8.ensures)) c.waking-next.ensures refl c.ends-in-8.ensures
+pub returns-else-bit-eq0-clause-stepped : goal.returns-else-bit-eq0-clause-stepped
+unfolding remote
+returns-else-bit-eq0-clause-stepped c =
+    let o = here (settings_of c.args.s.now) c.requires.sound c.args.step.here c.doing-k.ensures in
+    let x = memory_of c.args.self in
+    let p : Place c.args.self.words c.args.step.w = search rules in
+    let early : c.doing-k.result ≤ 5 = omega (arith, o.stands.high, c.in_default) in
+    let same : c.doing-k.result - 2 + 1 ≡ c.doing-k.result - 1 = omega (arith, o.past) in
+    stepped (record { memory = x; access = reads c.args.step.w 0; says = says_of c.arrival-in_default.result; then = to c.reading.result }) c.args.step.w
+    (looks_is o x early ∙ rw (ne_eqb _ _ (flag_clear p _ _ o.past c.bit-in_default.ensures c.if-bit-eq0.false), same, c.arrival-in_default.ensures, c.reading.ensures) refl)
+    (ap memory_of c.to-in_default.ensures.memory) refl c.requires.asked.hold c.to-in_default.ensures.course c.to-in_default.ensures.tells
 
-pub wakes-requires : goal.wakes-requires
-wakes-requires c =
-    let o = here c.args.w c.args.procs c.args.rounds c.requires.3 c.due-due.ensures c.in-Step.is c.doing-k.ensures in
-    let s = (here_stands o).0.wakes_left (search rules) in
-    (search rules, omega (arith, s))
-
-pub ends-requires-in-9 : goal.ends-requires-in-9
-ends-requires-in-9 c =
-    let o = here c.args.w c.args.procs c.args.rounds c.requires.3 c.due-due.ensures c.in-Step.is c.doing-k.ensures in
-    (search rules, left< o _ c.waking-next-in-9.ensures, search rules)
-
-pub returns-in-9 : goal.returns-in-9
-returns-in-9 c =
-    let o = here c.args.w c.args.procs c.args.rounds c.requires.3 c.due-due.ensures c.in-Step.is c.doing-k.ensures in
-    tree_left o _ _ _ _ _ (search rules) c.waking-next-in-9.ensures c.wakes.ensures c.ends-in-9.ensures
-
-pub wakes-requires-in-10 : goal.wakes-requires-in-10
-wakes-requires-in-10 c =
-    let o = here c.args.w c.args.procs c.args.rounds c.requires.3 c.due-due.ensures c.in-Step.is c.doing-k.ensures in
-    let s = (here_stands o).0.wakes_right (search rules) in
-    (search rules, omega (arith, s))
-
-pub returns-in-10 : goal.returns-in-10
-returns-in-10 c =
-    let o = here c.args.w c.args.procs c.args.rounds c.requires.3 c.due-due.ensures c.in-Step.is c.doing-k.ensures in
-    tree_right o _ _ _ _ _ (search rules) refl c.wakes-in-10.ensures c.ends-in-10.ensures
-
-pub bit-requires-in_default : goal.bit-requires-in_default
-bit-requires-in_default c =
-    let o = here c.args.w c.args.procs c.args.rounds c.requires.3 c.due-due.ensures c.in-Step.is c.doing-k.ensures in
-    let q : (2 ≤ c.doing-k.result) × (c.doing-k.result ≤ 5) = looking o (search rules) (search rules) (search rules) (search rules) (search rules) in
-    omega (arith, q.1)
-
-pub goes-requires-then-bit-eq0 : goal.goes-requires-then-bit-eq0
-goes-requires-then-bit-eq0 c =
-    let o = here c.args.w c.args.procs c.args.rounds c.requires.3 c.due-due.ensures c.in-Step.is c.doing-k.ensures in
-    let q : (2 ≤ c.doing-k.result) × (c.doing-k.result ≤ 5) = looking o (search rules) (search rules) (search rules) (search rules) (search rules) in
-    (search rules, omega (arith, q.1))
-
-pub returns-then-bit-eq0 : goal.returns-then-bit-eq0
-returns-then-bit-eq0 c =
-    let o = here c.args.w c.args.procs c.args.rounds c.requires.3 c.due-due.ensures c.in-Step.is c.doing-k.ensures in
-    let q : (2 ≤ c.doing-k.result) × (c.doing-k.result ≤ 5) = looking o (search rules) (search rules) (search rules) (search rules) (search rules) in
-    let p : Place c.args.self.nodes.words c.args.w = search rules in
-    tree_spins o _ _ _ _ _ q.1 (flag_set p _ _ q.0 c.bit-in_default.ensures (search rules)) refl c.goes-then-bit-eq0.ensures (ap (told_of _) c.going.ensures)
-
-pub overflow_sub-k : goal.overflow_sub-k
-overflow_sub-k c =
-    let o = here c.args.w c.args.procs c.args.rounds c.requires.3 c.due-due.ensures c.in-Step.is c.doing-k.ensures in
-    let q : (2 ≤ c.doing-k.result) × (c.doing-k.result ≤ 5) = looking o (search rules) (search rules) (search rules) (search rules) (search rules) in
-    omega (arith, q.0)
-
-pub reading-next-requires : goal.reading-next-requires
-reading-next-requires c =
-    let o = here c.args.w c.args.procs c.args.rounds c.requires.3 c.due-due.ensures c.in-Step.is c.doing-k.ensures in
-    let q : (2 ≤ c.doing-k.result) × (c.doing-k.result ≤ 5) = looking o (search rules) (search rules) (search rules) (search rules) (search rules) in
-    (search rules, omega (arith, q.1))
-
-pub ends-requires-in_default : goal.ends-requires-in_default
-ends-requires-in_default c =
-    let o = here c.args.w c.args.procs c.args.rounds c.requires.3 c.due-due.ensures c.in-Step.is c.doing-k.ensures in
-    let q : (2 ≤ c.doing-k.result) × (c.doing-k.result ≤ 5) = looking o (search rules) (search rules) (search rules) (search rules) (search rules) in
-    (search rules, looks< o _ q.1 c.reading-next.ensures, search rules)
-
-pub returns-in_default : goal.returns-in_default
-returns-in_default c =
-    let o = here c.args.w c.args.procs c.args.rounds c.requires.3 c.due-due.ensures c.in-Step.is c.doing-k.ensures in
-    let q : (2 ≤ c.doing-k.result) × (c.doing-k.result ≤ 5) = looking o (search rules) (search rules) (search rules) (search rules) (search rules) in
-    let p : Place c.args.self.nodes.words c.args.w = search rules in
-    tree_looks o _ _ _ _ _ q.1 (flag_clear p _ _ q.0 c.bit-in_default.ensures (search rules)) c.reading-next.ensures refl c.ends-in_default.ensures
+pub returns-else-bit-eq0-clause-sound : goal.returns-else-bit-eq0-clause-sound
+returns-else-bit-eq0-clause-sound c =
+    let o = here (settings_of c.args.s.now) c.requires.sound c.args.step.here c.doing-k.ensures in
+    let early : c.doing-k.result ≤ 5 = omega (arith, o.stands.high, c.in_default) in
+    rw (ap (λ (z : Course). z.at) c.to-in_default.ensures.course)
+    (sound_at c.args.step.w c.requires.sound c.reading.result (rw c.reading.ensures (stands_next c.args.s.now.procs c.args.step.w (child c.args.step.w (c.doing-k.result - 1)) (c.doing-k.result - 1) (omega (arith, early)))))
