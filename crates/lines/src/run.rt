@@ -37,7 +37,7 @@ impl fmt::Display for Run<'_> {
             table,
             events,
         } = *self;
-        let stop = u8::from(answer.stop);
+        let stop = answer.stop.number();
         writeln!(
             f,
             "turns={}\nstop={stop}\nremote={}",

@@ -6,11 +6,12 @@ use Rattle.rules.specs.Calls as rules
 use Rattle.settings.specs.declared.refusal.Refusal.{Refusal}
 use Rattle.settings.proofs.Outcome.{same_refusal, refused}
 use Rattle.machine.specs.declared.table.Record.{Record}
-use Rattle.machine.specs.declared.running.Stop.{Stop}
-use Rattle.machine.specs.declared.running.Stop.TheVariants.{UsedUp, Budget}
+use Rattle.turns.specs.Stopping.{stop_number}
+use Rattle.turns.specs.declared.played.Stop.{Stop}
+use Rattle.turns.specs.declared.played.Stop.TheVariants.{UsedUp, Budget}
 use Rattle.machine.specs.declared.running.Answer.{Answer}
 use Rattle.machine.specs.declared.running.Tallied.{Tallied}
-use Rattle.machine.specs.RunView.{record_of, stop_number, answer_of, Ran, Tallies}
+use Rattle.machine.specs.RunView.{record_of, answer_of, Ran, Tallies}
 
 -- the code's record of the rules' record
 abbrev pub record_back : rules.Record → Record

@@ -1,10 +1,9 @@
 -- A table filled with the records of a run is the rules' table, and so a run gives what the rules say.
-use Rattle.std.proofs.Common.{◌≡◌, ℕ, zero, suc, ◌+◌, ◌*◌, ◌<◌, Bool, true, false, List, [], ◌∷◌, ◌++◌, map, length, take, drop, set, eqb, refl, sym, ap, ap₂, ◌∙◌, arith, Ok, Err, ne_eqb}
+use Rattle.std.proofs.Common.{◌≡◌, ℕ, zero, suc, ◌+◌, ◌*◌, ◌<◌, List, [], ◌∷◌, ◌++◌, map, length, take, drop, set, refl, sym, ap, ap₂, ◌∙◌, arith, Ok, Err, ne_eqb}
 use Rattle.std.proofs.lemmas.List.{take_more_set, map-append, length-map, length-take-le, drop-map}
 use native.Mathlib.Nat.{add-zero}
 use Rattle.std.specs.List.{range_with_len}
 use Rattle.std.proofs.lemmas.List.FromFn.{map-range_with_len_more, length-map-range_with_len}
-use Rattle.rules.specs.Memory.{pick}
 use Rattle.rules.specs.Tally.{Tally}
 use Rattle.rules.specs.Machines.{machine}
 use Rattle.rules.specs.Play.{Run, whole}
@@ -18,8 +17,7 @@ use Rattle.settings.proofs.Outcome.{refused}
 use Rattle.turns.specs.declared.played.Played.{Played}
 use Rattle.turns.specs.CountView.{numbers, done_of, tally_of}
 use Rattle.machine.specs.declared.table.Record.{Record}
-use Rattle.machine.specs.declared.running.Stop.{Stop}
-use Rattle.machine.specs.RunView.{record_of, record_at, records_at, stop_number, Refuses, Plays, Ran}
+use Rattle.machine.specs.RunView.{record_of, record_at, records_at, Refuses, Plays, Ran}
 
 -- ---- the table
 
@@ -63,23 +61,19 @@ module _ (s : Settings) (t events : List ℕ) (table : List Record) where
   unfolding running
   refused_is after r q = record { is = rw (length-map table record_of, q.number, ne_eqb _ 0 (refused r), q.same) refl }
 
-  same_stop : (n : ℕ) (b : Bool) → n ≡ pick b 1 0 → pick (eqb n 0) 0 1 ≡ pick {A = ℕ} b 1 0
-  same_stop n true e = rw e refl
-  same_stop n false e = rw e refl
-
   tables : (sums : List ℕ) (new : List Record) → map record_of new ≡ records_at sums s.procs
       → over (records_at sums s.procs) (map record_of table) ≡ map record_of (new ++ drop s.procs table)
   tables sums new e =
       rw (length-map-range_with_len (record_at sums) 0 s.procs, drop-map record_of s.procs table, ← e) (sym (map-append record_of new (drop s.procs table)))
 
   pub played_is : (after : List ℕ) (p : Played) → Plays s t events after (length table) p
-      → (new : List Record) → map record_of new ≡ records_at p.sums (length (take s.procs table)) → (stop : Stop) → stop_number stop ≡ pick (eqb p.stop 0) 0 1
-      → Ran (settings_of s) t events after table (new ++ drop s.procs table) (Ok (record { turns = p.taken; stop = stop; events = p.events; total = p.total }))
+      → (new : List Record) → map record_of new ≡ records_at p.sums (length (take s.procs table))
+      → Ran (settings_of s) t events after table (new ++ drop s.procs table) (Ok (record { turns = p.taken; stop = p.stop; events = p.events; total = p.total }))
   unfolding running accepted_run
-  played_is after p q new e stop f =
+  played_is after p q new e =
       let r = whole (machine s.algo) (settings_of s) t in
       record {
-        is = rw (length-map table record_of, q.number) (same_run (sym q.played.taken) (sym (f ∙ same_stop p.stop r.stopped q.played.stop)) (sym q.played.events)
+        is = rw (length-map table record_of, q.number) (same_run (sym q.played.taken) (sym q.played.stop) (sym q.played.events)
             (ap (λ (t : Tally). t.total) (sym q.played.tally)) (sym q.played.row)
             (ap (λ (l : List rules.Record). over l (map record_of table)) (records_are r p q.played.done q.played.tally s.procs 0) ∙ tables p.sums new (rw (length-take-le s.procs table q.in_room) at e)));
       }

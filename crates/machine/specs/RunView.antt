@@ -12,8 +12,7 @@ use Rattle.settings.specs.View.{settings_of}
 use Rattle.turns.specs.declared.played.Played.{Played}
 use Rattle.turns.specs.CountView.{numbers}
 use Rattle.turns.specs.PlayView.{PlayedIs}
-use Rattle.machine.specs.declared.running.Stop.{Stop}
-use Rattle.machine.specs.declared.running.Stop.TheVariants.{UsedUp, Budget}
+use Rattle.turns.specs.Stopping.{stop_number}
 use Rattle.machine.specs.declared.running.Answer.{Answer}
 use Rattle.machine.specs.declared.running.Tallied.{Tallied}
 use Rattle.machine.specs.declared.table.Record.{Record}
@@ -56,11 +55,6 @@ abbrev pub records_at : List ℕ → ℕ → List rules.Record
 records_at sums n = map (record_at sums) (range_with_len 0 n)
 
 -- ---- the call
-
--- 0 where the schedule is used up, 1 for the budget
-abbrev pub stop_number : Stop → ℕ
-stop_number UsedUp = 0
-stop_number Budget = 1
 
 abbrev pub answer_of : Result Answer Refusal → rules.RunAnswer
 answer_of (Ok a) = record { number = 0; turns = a.turns; stop = stop_number a.stop; events = a.events; total = a.total }

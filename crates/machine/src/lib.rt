@@ -5,5 +5,6 @@ mod decide;
 mod running;
 mod table;
 
-pub use running::{Answer, Stop, Tallied, run, tallies};
+pub use running::{Answer, Tallied, run, tallies};
 pub use table::Record;
+pub use turns::Stop;

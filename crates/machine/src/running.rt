@@ -2,40 +2,12 @@
 ghost use Rattle.std.specs.Prelude.{◌≡◌, eqb};
 ghost use Rattle.rules.specs.Memory.{pick};
 ghost use Rattle.settings.specs.View.{settings_of};
-ghost use Rattle.machine.specs.RunView.{stop_number, Ran, Tallies};
+ghost use Rattle.machine.specs.RunView.{Ran, Tallies};
 
 use crate::decide::core;
 use crate::table::{Record, fill};
 use settings::{MOST_PROCS, Refusal, Settings};
-
-// Why a run ended.
-#[derive(Clone, Copy, Debug, PartialEq, Eq)]
-pub enum Stop {
-    UsedUp,
-    Budget,
-}
-
-// Document 01's number.
-impl From<Stop> for u8 {
-    ghost from_gives = { λ s n. n ≡ stop_number s };
-
-    fn from(s: Stop) -> u8 {
-        match s {
-            Stop::UsedUp => 0,
-            Stop::Budget => 1,
-        }
-    }
-}
-
-fn stop_of(number: u8) -> Stop
-    ensures { stop_number result ≡ pick (eqb number 0) 0 1 }
-{
-    if number == 0 {
-        Stop::UsedUp
-    } else {
-        Stop::Budget
-    }
-}
+use turns::Stop;
 
 // turns: taken. events: how many. total: of remote references.
 #[derive(Clone, Copy, Debug, PartialEq, Eq)]
@@ -66,7 +38,7 @@ pub fn run(
     fill(&mut table[..s.procs as usize], &p.sums);
     Ok(Answer {
         turns: p.taken,
-        stop: stop_of(p.stop),
+        stop: p.stop,
         events: p.events,
         total: p.total,
     })

@@ -9,4 +9,4 @@ returns-in_err-p c =
     rw e (refused_is _ _ _ _ _ _ c.in_err-p.ensures)
 
 pub returns : goal.returns
-returns c = played_is _ _ _ _ _ _ c.in_ok-p.ensures _ c.fill.ensures _ c.stop_of.ensures
+returns c = played_is _ _ _ _ _ _ c.in_ok-p.ensures _ c.fill.ensures
