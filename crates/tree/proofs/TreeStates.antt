@@ -1,10 +1,10 @@
 -- Where processors can be in the tree barrier, and the rules' steps by what is done.
 use native.Mathlib.Decide.{ℕ_discrete}
-use Rattle.std.proofs.Common.{◌≡◌, ◌≢◌, ℕ, ◌+◌, ◌-◌, ◌≤◌, ◌<◌, Bool, true, false, eqb, ltb, Option, Some, None, IfSome, refl, ap, ◌∙◌, arith, eq-eqb, ne_eqb, ltb-true}
+use Rattle.std.proofs.Common.{◌≡◌, ◌≢◌, ℕ, ◌+◌, ◌-◌, ◌≤◌, ◌<◌, Bool, true, false, eqb, ltb, Option, Some, None, IfSome, refl, ◌∙◌, arith, eq-eqb, ne_eqb, ltb-true}
 use Rattle.rules.specs.Memory.{pick, upd, each}
 use Rattle.rules.specs.Settings.{Settings, entry}
-use Rattle.rules.specs.Step.{Access, none, writes, remote, to, Step}
-use Rattle.rules.specs.Course.{Course, outset, goes}
+use Rattle.rules.specs.Step.{Access, none, writes, remote, to}
+use Rattle.rules.specs.Course.{Course, goes}
 use Rattle.rules.specs.Tree.{State, child, left, right, goes_on, leaves, wakes_next, reading, looks, sets, does, step, machine}
 use Rattle.rules.proofs.Store.{upd_same, upd_other, either, by_test}
 use Rattle.rules.proofs.Turned.{Told}
@@ -35,9 +35,6 @@ module _ (procs i : ℕ) where
 -- the step after one that reads a flag
 pub stands_next : (procs w c n : ℕ) → n ≤ 4 → Stands procs w (pick (ltb c procs) (2 + n) 6)
 stands_next procs w c n h = either (Stands procs w) (ltb c procs) (2 + n) 6 (stands_early procs w (2 + n) (omega arith) (omega arith)) (stands_early procs w 6 (omega arith) (omega arith))
-
-pub sound_first : (procs : ℕ) → Sound procs outset.at
-sound_first procs = record { stands = λ j. stands_early procs j 1 (omega arith) (omega arith) }
 
 module _ {procs : ℕ} {f : ℕ → ℕ} (w : ℕ) (sound : Sound procs f) where
   -- processor w goes to step k

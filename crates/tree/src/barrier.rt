@@ -11,7 +11,7 @@ ghost use Rattle.tree.specs.TreeView.{memory_of, toggled, ends, Sound};
 use settings::Settings;
 use turns::{Kind, Machine, Says, State, Step, bit, with_bit};
 
-// The steps after the flags are read, as in the rules.
+// The steps after the flags are read, with their numbers in the rules: for every machine the course keeps steps as numbers.
 const SETS: u8 = 6;
 
 const TELLS: u8 = 7;

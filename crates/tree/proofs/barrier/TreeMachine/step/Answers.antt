@@ -1,9 +1,8 @@
 -- The tree barrier's `step` meets its contract: each return is one of the rules' steps, and leaves everybody where it can be.
-use Rattle.std.proofs.Common.{true, false, ◌≡◌, ◌≢◌, ◌≤◌, ◌+◌, ◌-◌, ◌*◌, ℕ, Some, None, eqb, ltb, refl, sym, ap, ◌∙◌, eq-eqb, ne_eqb, rules, arith}
-use Rattle.rules.specs.Memory.{pick}
+use Rattle.std.proofs.Common.{false, ◌≡◌, ◌≤◌, ◌+◌, ◌-◌, None, eqb, refl, sym, ap, ◌∙◌, eq-eqb, ne_eqb, rules, arith}
 use Rattle.rules.specs.Step.{reads, writes, remote, again, to}
 use Rattle.rules.specs.Course.{Course}
-use Rattle.rules.specs.Tree.{State, child, left, right, parent, leaves, looks, tells, waits, woken}
+use Rattle.rules.specs.Tree.{State, child, left, right, parent, leaves, tells, waits, woken}
 use Rattle.rules.proofs.Views.{Place}
 use Rattle.settings.specs.View.{settings_of}
 use Rattle.turns.proofs.Turning.{stepped}
