@@ -2,16 +2,12 @@
 use native.Mathlib.Decide.{ℕ_discrete}
 use Rattle.std.proofs.Common.{◌≡◌, ◌≢◌, ℕ, ◌+◌, ◌-◌, ◌≤◌, ◌<◌, Bool, true, false, eqb, ltb, Option, Some, None, IfSome, refl, ◌∙◌, arith, eq-eqb, ne_eqb, ltb-true}
 use Rattle.rules.specs.Memory.{pick, upd, each}
-use Rattle.rules.specs.Settings.{Settings, entry}
-use Rattle.rules.specs.Step.{Access, none, writes, remote, to}
-use Rattle.rules.specs.Course.{Course, goes}
-use Rattle.rules.specs.Tree.{State, child, left, right, goes_on, leaves, wakes_next, reading, looks, sets, does, step, machine}
+use Rattle.rules.specs.Settings.{Settings}
+use Rattle.rules.specs.Step.{Access, writes, to, Step}
+use Rattle.rules.specs.Course.{goes}
+use Rattle.rules.specs.Tree.{State, child, left, right, goes_on, leaves, wakes_next, reading, looks, sets, does, step}
 use Rattle.rules.proofs.Store.{upd_same, upd_other, either, by_test}
-use Rattle.rules.proofs.Turned.{Told}
-use Rattle.turns.specs.Stepping.{Stepped, told_so}
-use Rattle.turns.specs.Stepping as stepping
-use Rattle.turns.proofs.Turning.{stepped}
-use Rattle.tree.specs.TreeView.{ends, Stands, Sound}
+use Rattle.tree.specs.TreeView.{memory_next, says_next, to_next, Stands, Sound}
 
 -- ---- where processors can be
 
@@ -46,9 +42,9 @@ module _ {procs : ℕ} {f : ℕ → ℕ} (w : ℕ) (sound : Sound procs f) where
       go j (no n) = rw (upd_other f w k j n) (sound.stands j)
 
   -- a step that ends so
-  pub sound_ends : (next : Option ℕ) (first : Bool) (y : State) → IfSome next (Stands procs w) → Sound procs (goes (ends next first none y w).then w f)
-  sound_ends None first y h = sound_at 1 (stands_early procs w 1 (omega arith) (omega arith))
-  sound_ends (Some k) first y h = sound_at k h
+  pub sound_next : (next : Option ℕ) → IfSome next (Stands procs w) → Sound procs (goes (to_next next) w f)
+  sound_next None h = sound_at 1 (stands_early procs w 1 (omega arith) (omega arith))
+  sound_next (Some k) h = sound_at k h
 
 -- ---- the rules' steps, by what is done
 
@@ -99,6 +95,9 @@ module _ {s : Settings} {w at k : ℕ} (o : Here s w at k) (x : State) where
 
 -- ---- the steps that end by the step that comes next
 
+abbrev pub ends : Option ℕ → (first : Bool) → Access → State → ℕ → Step State
+ends next first access x i = record { memory = memory_next next x i; access = access; says = says_next next first; then = to_next next }
+
 pub wakes_ends : (c k : ℕ) (first : Bool) (access : Access) (s : Settings) (y : State) (i : ℕ)
     → wakes_next c k first access s y i ≡ ends (pick (ltb c s.procs) (Some k) None) first access y i
 wakes_ends c k first access s y i = go (ltb c s.procs)
@@ -125,10 +124,3 @@ can_set procs w = go (ℕ_discrete w 0)
     go : Dec (w ≡ 0) → IfSome (pick (eqb w 0) (pick (ltb 1 procs) (Some 9) None) (Some 7)) (Stands procs w)
     go (yes z) = rw z (can_wake procs 0 (left 0) 9 (stands_left procs 0))
     go (no n) = rw (ne_eqb w 0 n) (stands_tells procs w n)
-
-pub stepped_ends : {s : Settings} {x : State} {c : Course} {at w : ℕ} {x' : State} {c' : Course} {d : Told} (y : State) (next : Option ℕ) (access : Access) (owner : ℕ) {hold : ℕ}
-    → step s x at w ≡ ends next (eqb at 1) access y w → remote w access ≡ pick (eqb owner w) 0 1 → hold ≡ entry s.hold w → x' ≡ (ends next (eqb at 1) none y w).memory
-    → c' ≡ stepping.goes_on c w (ends next (eqb at 1) none y w).says (ends next (eqb at 1) none y w).then hold
-    → d ≡ told_so w at owner (ends next (eqb at 1) none y w).says (ends next (eqb at 1) none y w).then → Stepped machine s x c at w x' c' d
-stepped_ends {at = at} {w = w} y None access owner is r h m = stepped (leaves (eqb at 1) access y w) owner is m r h
-stepped_ends {at = at} y (Some k) access owner is r h m = stepped (goes_on (eqb at 1) access (to k) y) owner is m r h
