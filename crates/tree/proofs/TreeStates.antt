@@ -1,6 +1,6 @@
 -- Where processors can be in the tree barrier, and the rules' steps by what is done.
 use native.Mathlib.Decide.{ℕ_discrete}
-use Rattle.std.proofs.Common.{◌≡◌, ◌≢◌, ℕ, ◌+◌, ◌-◌, ◌≤◌, ◌<◌, Bool, true, false, eqb, ltb, Option, Some, None, IfSome, refl, ◌∙◌, arith, eq-eqb, ne_eqb, ltb-true}
+use Rattle.std.proofs.Common.{◌≡◌, ◌≢◌, ℕ, ◌+◌, ◌-◌, ◌≤◌, ◌<◌, Bool, true, false, eqb, ltb, Option, Some, None, IfSome, refl, ◌∙◌, arith, rules, eq-eqb, ne_eqb, ltb-true}
 use Rattle.rules.specs.Memory.{pick, upd, each}
 use Rattle.rules.specs.Settings.{Settings}
 use Rattle.rules.specs.Step.{Access, writes, to, Step}
@@ -17,16 +17,16 @@ module _ (procs i : ℕ) where
   stands_at k l h t m n = record { low = l; high = h; tells = λ e. absurd (t e); wakes_left = λ e. absurd (m e); wakes_right = λ e. absurd (n e) }
 
   pub stands_tells : i ≢ 0 → Stands procs i 7
-  stands_tells n = record { low = omega arith; high = omega arith; tells = λ e. n; wakes_left = λ e. absurd (omega arith); wakes_right = λ e. absurd (omega arith) }
+  stands_tells n = search (rules, arith)
 
   pub stands_left : left i < procs → Stands procs i 9
-  stands_left h = record { low = omega arith; high = omega arith; tells = λ e. absurd (omega arith); wakes_left = λ e. h; wakes_right = λ e. absurd (omega arith) }
+  stands_left h = search (rules, arith)
 
   pub stands_right : right i < procs → Stands procs i 10
-  stands_right h = record { low = omega arith; high = omega arith; tells = λ e. absurd (omega arith); wakes_left = λ e. absurd (omega arith); wakes_right = λ e. h }
+  stands_right h = search (rules, arith)
 
   stands_early : (k : ℕ) → 1 ≤ k → k ≤ 6 → Stands procs i k
-  stands_early k l h = stands_at k l (omega arith) (λ e. omega arith) (λ e. omega arith) (λ e. omega arith)
+  stands_early k l h = search (rules, arith)
 
 -- the step after one that reads a flag
 pub stands_next : (procs w c n : ℕ) → n ≤ 4 → Stands procs w (pick (ltb c procs) (2 + n) 6)
