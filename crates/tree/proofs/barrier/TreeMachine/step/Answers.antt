@@ -9,7 +9,7 @@ use Rattle.turns.proofs.Turning.{stepped}
 use Rattle.tree.specs.TreeView.{memory_of}
 use Rattle.turns.specs.Saying.{says_of}
 use Rattle.tree.proofs.TreeWords.{flag_set, flag_clear, wake_is, sense_is}
-use Rattle.tree.proofs.TreeStates.{here, step_is, later, looks_is, sets_ends, wakes_ends, can_set, can_wake, stands_at, stands_next, stands_left, stands_right, ends, sound_at, sound_next}
+use Rattle.tree.proofs.TreeStates.{here, step_is, later, looks_is, sets_ends, wakes_ends, can_set, can_wake, stands_next, ends, sound_at, sound_next}
 use Rattle.tree.proofs.barrier.TreeMachine.step.Goals as goal
 
 pub returns-in-6-clause-stepped : goal.returns-in-6-clause-stepped
@@ -37,7 +37,7 @@ returns-in-7-clause-stepped c =
 pub returns-in-7-clause-sound : goal.returns-in-7-clause-sound
 returns-in-7-clause-sound c =
     rw (ap (λ (z : Course). z.at) c.to.ensures.course)
-    (sound_at c.args.step.w c.requires.sound 8 (stands_at c.args.s.now.procs c.args.step.w 8 (omega arith) (omega arith) (λ e. omega arith) (λ e. omega arith) (λ e. omega arith)))
+    (sound_at c.args.step.w c.requires.sound 8 (search (rules, arith)))
 
 pub returns-then-bit-clause-stepped : goal.returns-then-bit-clause-stepped
 unfolding remote
@@ -64,7 +64,7 @@ pub returns-else-bit-clause-sound : goal.returns-else-bit-clause-sound
 returns-else-bit-clause-sound c =
     rw (ap (λ (z : Course). z.at) c.ends-in-8.ensures.course)
     (sound_next c.args.step.w c.requires.sound c.waking.result
-    (rw c.waking.ensures (can_wake c.args.s.now.procs c.args.step.w (left c.args.step.w) 9 (stands_left c.args.s.now.procs c.args.step.w))))
+    (rw c.waking.ensures (can_wake c.args.s.now.procs c.args.step.w (left c.args.step.w) 9 (λ h. search (rules, arith)))))
 
 pub returns-in-9-clause-stepped : goal.returns-in-9-clause-stepped
 unfolding remote
@@ -82,7 +82,7 @@ returns-in-9-clause-sound c =
     let same : left c.args.step.w + 1 ≡ right c.args.step.w = omega arith in
     rw (ap (λ (z : Course). z.at) c.ends-in-9.ensures.course)
     (sound_next c.args.step.w c.requires.sound c.waking-in-9.result
-    (rw (c.waking-in-9.ensures, same) (can_wake c.args.s.now.procs c.args.step.w (right c.args.step.w) 10 (stands_right c.args.s.now.procs c.args.step.w))))
+    (rw (c.waking-in-9.ensures, same) (can_wake c.args.s.now.procs c.args.step.w (right c.args.step.w) 10 (λ h. search (rules, arith)))))
 
 pub returns-in-10-clause-stepped : goal.returns-in-10-clause-stepped
 unfolding remote
