@@ -1,43 +1,19 @@
 -- Where processors can be in the tree barrier, and the rules' steps by what is done.
 use native.Mathlib.Decide.{ℕ_discrete}
-use Rattle.std.proofs.Common.{◌≡◌, ◌≢◌, ℕ, ◌+◌, ◌-◌, ◌≤◌, ◌<◌, Bool, true, false, eqb, ltb, Option, Some, None, IfSome, refl, ap, ◌∙◌, arith, eq-eqb, ne_eqb, ltb-true}
+use Rattle.std.proofs.Common.{◌≡◌, ℕ, ◌+◌, ◌-◌, ◌≤◌, ◌<◌, Bool, true, false, eqb, ltb, Option, Some, None, IfSome, refl, ◌∙◌, arith, rules, eq-eqb, ne_eqb, ltb-true}
 use Rattle.rules.specs.Memory.{pick, upd, each}
-use Rattle.rules.specs.Settings.{Settings, entry}
-use Rattle.rules.specs.Step.{Access, none, writes, remote, to, Step}
-use Rattle.rules.specs.Course.{Course, outset, goes}
-use Rattle.rules.specs.Tree.{State, child, left, right, goes_on, leaves, wakes_next, reading, looks, sets, does, step, machine}
+use Rattle.rules.specs.Settings.{Settings}
+use Rattle.rules.specs.Step.{Access, writes, to, Step}
+use Rattle.rules.specs.Course.{goes}
+use Rattle.rules.specs.Tree.{State, child, left, goes_on, leaves, wakes_next, reading, looks, sets, does, step}
 use Rattle.rules.proofs.Store.{upd_same, upd_other, either, by_test}
-use Rattle.rules.proofs.Turned.{Told}
-use Rattle.turns.specs.Stepping.{Stepped, told_so}
-use Rattle.turns.specs.Stepping as stepping
-use Rattle.turns.proofs.Turning.{stepped}
-use Rattle.tree.specs.TreeView.{ends, Stands, Sound}
+use Rattle.tree.specs.TreeView.{memory_next, says_next, to_next, Stands, Sound}
 
 -- ---- where processors can be
 
-module _ (procs i : ℕ) where
-  -- at a step that asks nothing
-  pub stands_at : (k : ℕ) → 1 ≤ k → k ≤ 10 → k ≢ 7 → k ≢ 9 → k ≢ 10 → Stands procs i k
-  stands_at k l h t m n = record { low = l; high = h; tells = λ e. absurd (t e); wakes_left = λ e. absurd (m e); wakes_right = λ e. absurd (n e) }
-
-  pub stands_tells : i ≢ 0 → Stands procs i 7
-  stands_tells n = record { low = omega arith; high = omega arith; tells = λ e. n; wakes_left = λ e. absurd (omega arith); wakes_right = λ e. absurd (omega arith) }
-
-  pub stands_left : left i < procs → Stands procs i 9
-  stands_left h = record { low = omega arith; high = omega arith; tells = λ e. absurd (omega arith); wakes_left = λ e. h; wakes_right = λ e. absurd (omega arith) }
-
-  pub stands_right : right i < procs → Stands procs i 10
-  stands_right h = record { low = omega arith; high = omega arith; tells = λ e. absurd (omega arith); wakes_left = λ e. absurd (omega arith); wakes_right = λ e. h }
-
-  stands_early : (k : ℕ) → 1 ≤ k → k ≤ 6 → Stands procs i k
-  stands_early k l h = stands_at k l (omega arith) (λ e. omega arith) (λ e. omega arith) (λ e. omega arith)
-
 -- the step after one that reads a flag
 pub stands_next : (procs w c n : ℕ) → n ≤ 4 → Stands procs w (pick (ltb c procs) (2 + n) 6)
-stands_next procs w c n h = either (Stands procs w) (ltb c procs) (2 + n) 6 (stands_early procs w (2 + n) (omega arith) (omega arith)) (stands_early procs w 6 (omega arith) (omega arith))
-
-pub sound_first : (procs : ℕ) → Sound procs outset.at
-sound_first procs = record { stands = λ j. stands_early procs j 1 (omega arith) (omega arith) }
+stands_next procs w c n h = either (Stands procs w) (ltb c procs) (2 + n) 6 (search (rules, arith)) (search (rules, arith))
 
 module _ {procs : ℕ} {f : ℕ → ℕ} (w : ℕ) (sound : Sound procs f) where
   -- processor w goes to step k
@@ -49,9 +25,9 @@ module _ {procs : ℕ} {f : ℕ → ℕ} (w : ℕ) (sound : Sound procs f) where
       go j (no n) = rw (upd_other f w k j n) (sound.stands j)
 
   -- a step that ends so
-  pub sound_ends : (next : Option ℕ) (first : Bool) (y : State) → IfSome next (Stands procs w) → Sound procs (goes (ends next first none y w).then w f)
-  sound_ends None first y h = sound_at 1 (stands_early procs w 1 (omega arith) (omega arith))
-  sound_ends (Some k) first y h = sound_at k h
+  pub sound_next : (next : Option ℕ) → IfSome next (Stands procs w) → Sound procs (goes (to_next next) w f)
+  sound_next None h = sound_at 1 (search (rules, arith))
+  sound_next (Some k) h = sound_at k h
 
 -- ---- the rules' steps, by what is done
 
@@ -68,7 +44,7 @@ here s {w} {at} {k} {f} sound is e = record { does = e; stands = (go (ℕ_discre
     go (yes d) =
         rw (e, eq-eqb at 1 d)
         (either (λ (n : ℕ). Stands s.procs w n × (2 ≤ n)) (ltb (child w 0) s.procs) 2 6
-        (stands_early s.procs w 2 (omega arith) (omega arith), omega arith) (stands_early s.procs w 6 (omega arith) (omega arith), omega arith))
+        (search (rules, arith), omega arith) (search (rules, arith), omega arith))
     go (no n) =
         let h : Stands s.procs w at = rw is at (sound.stands w) in
         rw (e, ne_eqb at 1 n) (h, omega (arith, h.low))
@@ -102,6 +78,9 @@ module _ {s : Settings} {w at k : ℕ} (o : Here s w at k) (x : State) where
 
 -- ---- the steps that end by the step that comes next
 
+abbrev pub ends : Option ℕ → (first : Bool) → Access → State → ℕ → Step State
+ends next first access x i = record { memory = memory_next next x i; access = access; says = says_next next first; then = to_next next }
+
 pub wakes_ends : (c k : ℕ) (first : Bool) (access : Access) (s : Settings) (y : State) (i : ℕ)
     → wakes_next c k first access s y i ≡ ends (pick (ltb c s.procs) (Some k) None) first access y i
 wakes_ends c k first access s y i = go (ltb c s.procs)
@@ -126,12 +105,5 @@ pub can_set : (procs w : ℕ) → IfSome (pick (eqb w 0) (pick (ltb 1 procs) (So
 can_set procs w = go (ℕ_discrete w 0)
   where
     go : Dec (w ≡ 0) → IfSome (pick (eqb w 0) (pick (ltb 1 procs) (Some 9) None) (Some 7)) (Stands procs w)
-    go (yes z) = rw z (can_wake procs 0 (left 0) 9 (stands_left procs 0))
-    go (no n) = rw (ne_eqb w 0 n) (stands_tells procs w n)
-
-pub stepped_ends : {s : Settings} {x : State} {c : Course} {at w : ℕ} {x' : State} {c' : Course} {d : Told} (y : State) (next : Option ℕ) (access : Access) (owner : ℕ) {hold : ℕ}
-    → step s x at w ≡ ends next (eqb at 1) access y w → remote w access ≡ pick (eqb owner w) 0 1 → hold ≡ entry s.hold w → x' ≡ (ends next (eqb at 1) none y w).memory
-    → c' ≡ stepping.goes_on c w (ends next (eqb at 1) none y w).says (ends next (eqb at 1) none y w).then hold
-    → d ≡ told_so w at owner (ends next (eqb at 1) none y w).says (ends next (eqb at 1) none y w).then → Stepped machine s x c at w x' c' d
-stepped_ends {at = at} {w = w} y None access owner is r h m = stepped (leaves (eqb at 1) access y w) owner is m r h
-stepped_ends {at = at} y (Some k) access owner is r h m = stepped (goes_on (eqb at 1) access (to k) y) owner is m r h
+    go (yes z) = rw z (can_wake procs 0 (left 0) 9 (λ h. search (rules, arith)))
+    go (no n) = rw (ne_eqb w 0 n) (search (rules, arith))

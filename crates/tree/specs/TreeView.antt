@@ -1,8 +1,8 @@
 -- What the code's tree barrier stands for in the rules.
 use Rattle.std.specs.Prelude.{ℕ, ◌+◌, ◌-◌, ◌≤◌, ◌<◌, ◌≡◌, ◌≢◌, Bool, Option, Some, None}
-use Rattle.rules.specs.Memory.{upd}
-use Rattle.rules.specs.Step.{Access, to, Step}
-use Rattle.rules.specs.Tree.{State, left, right, goes_on, leaves}
+use Rattle.rules.specs.Memory.{pick, upd}
+use Rattle.rules.specs.Step.{Says, nothing, one, two, arrive, leave, Next, to, over}
+use Rattle.rules.specs.Tree.{State, left, right}
 use Rattle.rules.proofs.Views.{view}
 use Rattle.tree.specs.declared.barrier.Tree.{Tree}
 use Rattle.turns.specs.BitView.{bits}
@@ -30,10 +30,19 @@ memory_of n = record {
 abbrev pub toggled : State → ℕ → State
 toggled x i = record { flag = x.flag; wake = x.wake; sense = upd x.sense i (1 - x.sense i) }
 
--- how a step ends: the passage goes on at the next step, or there is none and it is over
-abbrev pub ends : (next : Option ℕ) → (first : Bool) → Access → State → ℕ → Step State
-ends None first access x i = leaves first access x i
-ends (Some k) first access x i = goes_on first access (to k) x
+-- ---- how a step ends: the passage goes on at the next step, or there is none and the passage is over
+
+abbrev pub memory_next : Option ℕ → State → ℕ → State
+memory_next None x i = toggled x i
+memory_next (Some k) x i = x
+
+abbrev pub says_next : Option ℕ → (first : Bool) → Says
+says_next None first = pick first (two arrive leave) (one leave)
+says_next (Some k) first = pick first (one arrive) nothing
+
+abbrev pub to_next : Option ℕ → Next
+to_next None = over
+to_next (Some k) = to k
 
 -- ---- where processors can be
 

@@ -2,16 +2,16 @@
 ghost use Rattle.std.specs.Prelude.{◌≡◌, ◌<◌, ◌≤◌, ◌+◌, Some, None, IfSome, eqb, ltb};
 ghost use Rattle.rules.specs.Memory.{pick, upd, each};
 ghost use Rattle.rules.specs.Tree.{machine, child};
-ghost use Rattle.rules.specs.Step.{none, arrive, leave, nothing, one, two};
+ghost use Rattle.rules.specs.Step.{arrive, leave, nothing, one, two};
 ghost use Rattle.turns.specs.Saying.{says_of};
 ghost use Rattle.turns.specs.View.{course_of, told_of};
 ghost use Rattle.turns.specs.Stepping.{goes_on, told_so};
-ghost use Rattle.tree.specs.TreeView.{memory_of, toggled, ends, Sound};
+ghost use Rattle.tree.specs.TreeView.{memory_of, toggled, memory_next, says_next, to_next, Sound};
 
 use settings::Settings;
 use turns::{Kind, Machine, Says, State, Step, bit, with_bit};
 
-// The steps after the flags are read, as in the rules.
+// The steps after the flags are read, with their numbers in the rules: for every machine the course keeps steps as numbers.
 const SETS: u8 = 6;
 
 const TELLS: u8 = 7;
@@ -139,9 +139,9 @@ impl Tree {
     // How a step ends: the passage goes on at the next step, or there is none and it is over.
     fn ends(self, step: Step, next: Option<u8>, owner: u16) -> State<Tree>
         requires { IfSome next (λ k. k ≤ 10) }
-        ensures memory { memory_of result.memory ≡ (ends next (eqb step.at 1) none (memory_of self) step.w).memory }
-        ensures course { course_of result.course ≡ goes_on (course_of step.course) step.w (ends next (eqb step.at 1) none (memory_of self) step.w).says (ends next (eqb step.at 1) none (memory_of self) step.w).then step.hold }
-        ensures tells { told_of step.w result.made ≡ told_so step.w step.at owner (ends next (eqb step.at 1) none (memory_of self) step.w).says (ends next (eqb step.at 1) none (memory_of self) step.w).then }
+        ensures memory { memory_of result.memory ≡ memory_next next (memory_of self) step.w }
+        ensures course { course_of result.course ≡ goes_on (course_of step.course) step.w (says_next next (eqb step.at 1)) (to_next next) step.hold }
+        ensures tells { told_of step.w result.made ≡ told_so step.w step.at owner (says_next next (eqb step.at 1)) (to_next next) }
     {
         let first = step.at == 1;
         if let Some(at) = next {

@@ -1,5 +1,5 @@
 -- `tree::barrier::Tree::clears` meets its contract.
-use borrow.Author.Rules.{rules}
+use Rattle.std.proofs.Common.{rules}
 use Rattle.rules.proofs.Views.{Place}
 use Rattle.tree.proofs.TreeWords.{flag_cleared}
 use Rattle.tree.proofs.barrier.Tree.clears.Goals as goal

@@ -1,6 +1,5 @@
 -- `tree::barrier::Tree::sets` meets its contract.
-use borrow.Author.Rules.{rules}
-use mathlib.Core.Path.{refl}
+use Rattle.std.proofs.Common.{refl, rules}
 use Rattle.rules.proofs.Views.{Place}
 use Rattle.tree.proofs.TreeWords.{flags_set}
 use Rattle.tree.proofs.barrier.Tree.sets.Goals as goal

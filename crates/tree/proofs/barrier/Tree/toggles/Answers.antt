@@ -1,6 +1,5 @@
 -- `tree::barrier::Tree::toggles` meets its contract.
-use borrow.Author.Rules.{rules}
-use native.Mathlib.Omega.{arith}
+use Rattle.std.proofs.Common.{arith, rules}
 use Rattle.rules.proofs.Views.{Place}
 use Rattle.turns.proofs.Words.{bit<}
 use Rattle.tree.proofs.TreeWords.{sense_stored, sense_is}

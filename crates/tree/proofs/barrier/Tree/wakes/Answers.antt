@@ -1,5 +1,5 @@
 -- `tree::barrier::Tree::wakes` meets its contract.
-use borrow.Author.Rules.{rules}
+use Rattle.std.proofs.Common.{rules}
 use Rattle.rules.proofs.Views.{Place}
 use Rattle.turns.proofs.Words.{bit<}
 use Rattle.tree.proofs.TreeWords.{wake_stored, sense_is}

@@ -1,11 +1,7 @@
 -- The tree barrier's `start` meets its contract.
 use Rattle.settings.specs.View.{settings_of}
 use Rattle.tree.proofs.TreeWords.{first_words}
-use Rattle.tree.proofs.TreeStates.{sound_first}
 use Rattle.tree.proofs.barrier.TreeMachine.start.Goals as goal
 
 pub returns-clause-memory : goal.returns-clause-memory
 returns-clause-memory c = first_words (settings_of c.args._s.now)
-
-pub returns-clause-sound : goal.returns-clause-sound
-returns-clause-sound c = sound_first _

@@ -1,16 +1,15 @@
 -- The tree barrier's `step` meets its contract: each return is one of the rules' steps, and leaves everybody where it can be.
-use Rattle.std.proofs.Common.{true, false, ◌≡◌, ◌≢◌, ◌≤◌, ◌+◌, ◌-◌, ◌*◌, ℕ, Some, None, eqb, ltb, refl, sym, ap, ◌∙◌, eq-eqb, ne_eqb, rules, arith}
-use Rattle.rules.specs.Memory.{pick}
+use Rattle.std.proofs.Common.{false, ◌≡◌, ◌≤◌, ◌+◌, ◌-◌, None, eqb, refl, sym, ap, ◌∙◌, eq-eqb, ne_eqb, rules, arith}
 use Rattle.rules.specs.Step.{reads, writes, remote, again, to}
 use Rattle.rules.specs.Course.{Course}
-use Rattle.rules.specs.Tree.{State, child, left, right, parent, leaves, looks, tells, waits, woken}
+use Rattle.rules.specs.Tree.{State, child, left, right, parent, leaves, tells, waits, woken}
 use Rattle.rules.proofs.Views.{Place}
 use Rattle.settings.specs.View.{settings_of}
 use Rattle.turns.proofs.Turning.{stepped}
 use Rattle.tree.specs.TreeView.{memory_of}
 use Rattle.turns.specs.Saying.{says_of}
 use Rattle.tree.proofs.TreeWords.{flag_set, flag_clear, wake_is, sense_is}
-use Rattle.tree.proofs.TreeStates.{here, step_is, later, looks_is, sets_ends, wakes_ends, can_set, can_wake, stands_at, stands_next, stands_left, stands_right, stepped_ends, sound_at, sound_ends}
+use Rattle.tree.proofs.TreeStates.{here, step_is, later, looks_is, sets_ends, wakes_ends, can_set, can_wake, stands_next, ends, sound_at, sound_next}
 use Rattle.tree.proofs.barrier.TreeMachine.step.Goals as goal
 
 pub returns-in-6-clause-stepped : goal.returns-in-6-clause-stepped
@@ -18,14 +17,14 @@ unfolding remote
 returns-in-6-clause-stepped c =
     let o = here (settings_of c.args.s.now) c.requires.sound c.args.step.here c.doing-k.ensures in
     let x = memory_of c.args.self in
-    stepped_ends (memory_of c.sets.result) c.after_sets.result (writes c.args.step.w 0) c.args.step.w
-    (step_is o x ∙ rw (c.in-6.is, c.after_sets.ensures) (sets_ends (eqb c.args.step.at 1) (settings_of c.args.s.now) x (memory_of c.sets.result) c.args.step.w c.sets.ensures)) refl
-    c.requires.asked.hold c.ends.ensures.memory c.ends.ensures.course c.ends.ensures.tells
+    stepped (ends c.after_sets.result (eqb c.args.step.at 1) (writes c.args.step.w 0) (memory_of c.sets.result) c.args.step.w) c.args.step.w
+    (step_is o x ∙ rw (c.in-6.is, c.after_sets.ensures) (sets_ends (eqb c.args.step.at 1) (settings_of c.args.s.now) x (memory_of c.sets.result) c.args.step.w c.sets.ensures))
+    c.ends.ensures.memory refl c.requires.asked.hold c.ends.ensures.course c.ends.ensures.tells
 
 pub returns-in-6-clause-sound : goal.returns-in-6-clause-sound
 returns-in-6-clause-sound c =
     rw (ap (λ (z : Course). z.at) c.ends.ensures.course)
-    (sound_ends c.args.step.w c.requires.sound c.after_sets.result (eqb c.args.step.at 1) (memory_of c.sets.result) (rw c.after_sets.ensures (can_set c.args.s.now.procs c.args.step.w)))
+    (sound_next c.args.step.w c.requires.sound c.after_sets.result (rw c.after_sets.ensures (can_set c.args.s.now.procs c.args.step.w)))
 
 pub returns-in-7-clause-stepped : goal.returns-in-7-clause-stepped
 unfolding remote
@@ -38,7 +37,7 @@ returns-in-7-clause-stepped c =
 pub returns-in-7-clause-sound : goal.returns-in-7-clause-sound
 returns-in-7-clause-sound c =
     rw (ap (λ (z : Course). z.at) c.to.ensures.course)
-    (sound_at c.args.step.w c.requires.sound 8 (stands_at c.args.s.now.procs c.args.step.w 8 (omega arith) (omega arith) (λ e. omega arith) (λ e. omega arith) (λ e. omega arith)))
+    (sound_at c.args.step.w c.requires.sound 8 (search (rules, arith)))
 
 pub returns-then-bit-clause-stepped : goal.returns-then-bit-clause-stepped
 unfolding remote
@@ -57,15 +56,15 @@ returns-else-bit-clause-stepped c =
     let x = memory_of c.args.self in
     let p : Place c.args.self.words c.args.step.w = search rules in
     let f : eqb c.args.step.at 1 ≡ false = later o x (omega (arith, c.in-8.is)) in
-    stepped_ends x c.waking.result (reads c.args.step.w 1) c.args.step.w
-    (step_is o x ∙ rw (f, c.in-8.is, wake_is p _ c.bit.ensures, sense_is p _ c.bit-in-8.ensures, eq-eqb _ _ c.if-bit.false, c.waking.ensures) (wakes_ends (left c.args.step.w) 9 false (reads c.args.step.w 1) (settings_of c.args.s.now) x c.args.step.w)) refl
-    c.requires.asked.hold c.ends-in-8.ensures.memory c.ends-in-8.ensures.course c.ends-in-8.ensures.tells
+    stepped (ends c.waking.result (eqb c.args.step.at 1) (reads c.args.step.w 1) x c.args.step.w) c.args.step.w
+    (step_is o x ∙ rw (f, c.in-8.is, wake_is p _ c.bit.ensures, sense_is p _ c.bit-in-8.ensures, eq-eqb _ _ c.if-bit.false, c.waking.ensures) (wakes_ends (left c.args.step.w) 9 false (reads c.args.step.w 1) (settings_of c.args.s.now) x c.args.step.w))
+    c.ends-in-8.ensures.memory refl c.requires.asked.hold c.ends-in-8.ensures.course c.ends-in-8.ensures.tells
 
 pub returns-else-bit-clause-sound : goal.returns-else-bit-clause-sound
 returns-else-bit-clause-sound c =
     rw (ap (λ (z : Course). z.at) c.ends-in-8.ensures.course)
-    (sound_ends c.args.step.w c.requires.sound c.waking.result (eqb c.args.step.at 1) (memory_of c.args.self)
-    (rw c.waking.ensures (can_wake c.args.s.now.procs c.args.step.w (left c.args.step.w) 9 (stands_left c.args.s.now.procs c.args.step.w))))
+    (sound_next c.args.step.w c.requires.sound c.waking.result
+    (rw c.waking.ensures (can_wake c.args.s.now.procs c.args.step.w (left c.args.step.w) 9 (λ h. search (rules, arith)))))
 
 pub returns-in-9-clause-stepped : goal.returns-in-9-clause-stepped
 unfolding remote
@@ -74,16 +73,16 @@ returns-in-9-clause-stepped c =
     let x = memory_of c.args.self in
     let f : eqb c.args.step.at 1 ≡ false = later o x (omega (arith, c.in-9.is)) in
     let same : left c.args.step.w + 1 ≡ right c.args.step.w = omega arith in
-    stepped_ends (memory_of c.wakes.result) c.waking-in-9.result (writes (left c.args.step.w) 1) (left c.args.step.w)
-    (step_is o x ∙ rw (f, c.in-9.is, c.wakes.ensures, c.waking-in-9.ensures, same) (wakes_ends (right c.args.step.w) 10 false (writes (left c.args.step.w) 1) (settings_of c.args.s.now) (woken (left c.args.step.w) x c.args.step.w) c.args.step.w)) refl
-    c.requires.asked.hold c.ends-in-9.ensures.memory c.ends-in-9.ensures.course c.ends-in-9.ensures.tells
+    stepped (ends c.waking-in-9.result (eqb c.args.step.at 1) (writes (left c.args.step.w) 1) (memory_of c.wakes.result) c.args.step.w) (left c.args.step.w)
+    (step_is o x ∙ rw (f, c.in-9.is, c.wakes.ensures, c.waking-in-9.ensures, same) (wakes_ends (right c.args.step.w) 10 false (writes (left c.args.step.w) 1) (settings_of c.args.s.now) (woken (left c.args.step.w) x c.args.step.w) c.args.step.w))
+    c.ends-in-9.ensures.memory refl c.requires.asked.hold c.ends-in-9.ensures.course c.ends-in-9.ensures.tells
 
 pub returns-in-9-clause-sound : goal.returns-in-9-clause-sound
 returns-in-9-clause-sound c =
     let same : left c.args.step.w + 1 ≡ right c.args.step.w = omega arith in
     rw (ap (λ (z : Course). z.at) c.ends-in-9.ensures.course)
-    (sound_ends c.args.step.w c.requires.sound c.waking-in-9.result (eqb c.args.step.at 1) (memory_of c.wakes.result)
-    (rw (c.waking-in-9.ensures, same) (can_wake c.args.s.now.procs c.args.step.w (right c.args.step.w) 10 (stands_right c.args.s.now.procs c.args.step.w))))
+    (sound_next c.args.step.w c.requires.sound c.waking-in-9.result
+    (rw (c.waking-in-9.ensures, same) (can_wake c.args.s.now.procs c.args.step.w (right c.args.step.w) 10 (λ h. search (rules, arith)))))
 
 pub returns-in-10-clause-stepped : goal.returns-in-10-clause-stepped
 unfolding remote
@@ -91,14 +90,14 @@ returns-in-10-clause-stepped c =
     let o = here (settings_of c.args.s.now) c.requires.sound c.args.step.here c.doing-k.ensures in
     let x = memory_of c.args.self in
     let f : eqb c.args.step.at 1 ≡ false = later o x (omega (arith, c.in-10.is)) in
-    stepped_ends (memory_of c.wakes-in-10.result) None (writes (right c.args.step.w) 1) (right c.args.step.w)
-    (step_is o x ∙ rw (f, c.in-10.is) (ap (λ (y : State). leaves false (writes (right c.args.step.w) 1) y c.args.step.w) (sym c.wakes-in-10.ensures))) refl
-    c.requires.asked.hold c.ends-in-10.ensures.memory c.ends-in-10.ensures.course c.ends-in-10.ensures.tells
+    stepped (ends None (eqb c.args.step.at 1) (writes (right c.args.step.w) 1) (memory_of c.wakes-in-10.result) c.args.step.w) (right c.args.step.w)
+    (step_is o x ∙ rw (f, c.in-10.is) (ap (λ (y : State). leaves false (writes (right c.args.step.w) 1) y c.args.step.w) (sym c.wakes-in-10.ensures)))
+    c.ends-in-10.ensures.memory refl c.requires.asked.hold c.ends-in-10.ensures.course c.ends-in-10.ensures.tells
 
 pub returns-in-10-clause-sound : goal.returns-in-10-clause-sound
 returns-in-10-clause-sound c =
     rw (ap (λ (z : Course). z.at) c.ends-in-10.ensures.course)
-    (sound_ends c.args.step.w c.requires.sound None (eqb c.args.step.at 1) (memory_of c.wakes-in-10.result) tt)
+    (sound_next c.args.step.w c.requires.sound None tt)
 
 pub returns-then-bit-eq0-clause-stepped : goal.returns-then-bit-eq0-clause-stepped
 unfolding remote
