@@ -14,7 +14,7 @@ pub returns-in-1-clause-stepped : goal.returns-in-1-clause-stepped
 unfolding step remote
 returns-in-1-clause-stepped c =
     let next : c.if-self-eq1.next ≡ pick (eqb c.args.self.count 1) 2 4 =
-    elim c.if-self-eq1.branch [ then-self-eq1 w ↦ rw (w.next-is, eq-eqb _ _ w.if-self-eq1.true) refl | else-self-eq1 w ↦ rw (w.next-is, ne_eqb _ _ w.if-self-eq1.false) refl ] in
+    elim c.if-self-eq1.branch [ then-self-eq1 w ↦ rw (w.next-is, eq-eqb c.args.self.count 1 w.if-self-eq1.true) refl | else-self-eq1 w ↦ rw (w.next-is, ne_eqb c.args.self.count 1 w.if-self-eq1.false) refl ] in
     let did = counts (settings_of c.args.s.now) (memory_of c.args.self) c.args.step.w in
     stepped (record { memory = did.memory; access = did.access; says = did.says; then = to c.if-self-eq1.next }) c.args.s.now.home (rw (c.in-1.is, next) refl)
     (search rules) refl c.requires.asked.hold (search rules) (search rules)
