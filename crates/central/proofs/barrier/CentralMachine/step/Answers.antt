@@ -22,27 +22,25 @@ returns-in-1-clause-stepped c =
 pub returns-in-2-clause-stepped : goal.returns-in-2-clause-stepped
 unfolding step remote
 returns-in-2-clause-stepped c =
-    stepped (resets (settings_of c.args.s.now) (memory_of c.args.self)) c.args.s.now.home (rw c.in-2.is refl)
+    stepped (resets (settings_of c.args.s.now) (memory_of c.args.self)) c.args.s.now.home (search rules)
     (search rules) refl c.requires.asked.hold (search rules) (search rules)
 
 pub returns-in-3-clause-stepped : goal.returns-in-3-clause-stepped
 unfolding step remote
 returns-in-3-clause-stepped c =
-    stepped (opens (settings_of c.args.s.now) (memory_of c.args.self) c.args.step.w) c.args.s.now.home (rw c.in-3.is refl)
+    stepped (opens (settings_of c.args.s.now) (memory_of c.args.self) c.args.step.w) c.args.s.now.home (search rules)
     (search rules) refl c.requires.asked.hold (search rules) (search rules)
 
 pub returns-then-self-local-clause-stepped : goal.returns-then-self-local-clause-stepped
 unfolding step remote
 returns-then-self-local-clause-stepped c =
     let p : Place c.args.self.local c.args.step.w = search rules in
-    stepped (waits true (settings_of c.args.s.now) (memory_of c.args.self)) c.args.s.now.home
-    (rw (ne_eqb c.args.step.at 1 (search rules), ne_eqb c.args.step.at 2 (search rules), ne_eqb c.args.step.at 3 (search rules), view_at 1 p, eq-eqb _ _ c.if-self-local.true) refl)
+    stepped (waits true (settings_of c.args.s.now) (memory_of c.args.self)) c.args.s.now.home (rw (view_at 1 p) (search rules))
     (search rules) refl c.requires.asked.hold (search rules) (search rules)
 
 pub returns-in_default-clause-stepped : goal.returns-in_default-clause-stepped
 unfolding step remote
 returns-in_default-clause-stepped c =
     let p : Place c.args.self.local c.args.step.w = search rules in
-    stepped (waits false (settings_of c.args.s.now) (memory_of c.args.self)) c.args.s.now.home
-    (rw (ne_eqb c.args.step.at 1 (search rules), ne_eqb c.args.step.at 2 (search rules), ne_eqb c.args.step.at 3 (search rules), view_at 1 p, ne_eqb _ _ c.if-self-local.false) refl)
+    stepped (waits false (settings_of c.args.s.now) (memory_of c.args.self)) c.args.s.now.home (rw (view_at 1 p) (search rules))
     (search rules) refl c.requires.asked.hold (search rules) (search rules)

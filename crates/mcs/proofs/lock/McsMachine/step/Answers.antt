@@ -1,5 +1,5 @@
 -- The MCS lock's `step` meets its contract: each return is one of the rules' steps, and leaves a sound state.
-use Rattle.std.proofs.Common.{true, false, suc, ◌-◌, ◌≡◌, inl, inr, refl, sym, ap, add-one, ◌∙◌, eq-eqb, ne_eqb, rules, arith}
+use Rattle.std.proofs.Common.{true, false, suc, ◌-◌, ◌≡◌, inl, inr, refl, rules, arith}
 use Rattle.rules.specs.Step.{remote}
 use Rattle.rules.specs.Mcs.{clears, swaps, locks, links, waits, looks, drains, rereads, wakes, step}
 use Rattle.rules.proofs.Views.{view}
@@ -12,7 +12,7 @@ use Rattle.mcs.proofs.lock.McsMachine.step.Goals as goal
 pub returns-in-1-clause-stepped : goal.returns-in-1-clause-stepped
 unfolding step remote
 returns-in-1-clause-stepped c =
-    stepped (clears (memory_of c.args.self) c.args.step.w) c.args.step.w (rw c.in-1.is refl)
+    stepped (clears (memory_of c.args.self) c.args.step.w) c.args.step.w (search rules)
     (search rules) refl c.requires.asked.hold (search rules) (search rules)
 
 pub returns-in-1-clause-sound : goal.returns-in-1-clause-sound
@@ -22,15 +22,15 @@ returns-in-1-clause-sound c =
 pub returns-then-self-eq0-clause-stepped : goal.returns-then-self-eq0-clause-stepped
 unfolding step remote
 returns-then-self-eq0-clause-stepped c =
-    stepped (swaps 0 (settings_of c.args.s.now) (memory_of c.args.self) c.args.step.w) c.args.s.now.home (rw (c.in-2.is, c.if-self-eq0.true) refl)
-    (rw (sym (add-one c.args.step.w)) (search rules)) refl c.requires.asked.hold (search rules) (search rules)
+    stepped (swaps 0 (settings_of c.args.s.now) (memory_of c.args.self) c.args.step.w) c.args.s.now.home (search rules)
+    (search rules) refl c.requires.asked.hold (search rules) (search rules)
 
 pub returns-in-2-clause-stepped : goal.returns-in-2-clause-stepped
 unfolding step remote
 returns-in-2-clause-stepped c =
     let q : c.args.self.tail ≡ suc (c.args.self.tail - 1) = omega (arith, c.if-self-eq0.false) in
-    stepped (swaps (suc (c.args.self.tail - 1)) (settings_of c.args.s.now) (memory_of c.args.self) c.args.step.w) c.args.s.now.home (rw c.in-2.is (ap (λ n. swaps n (settings_of c.args.s.now) (memory_of c.args.self) c.args.step.w) q))
-    (rw (sym (add-one c.args.step.w)) (search rules)) refl c.requires.asked.hold (search rules) (search rules)
+    stepped (swaps (suc (c.args.self.tail - 1)) (settings_of c.args.s.now) (memory_of c.args.self) c.args.step.w) c.args.s.now.home (search (q, rules))
+    (search rules) refl c.requires.asked.hold (search rules) (search rules)
 
 pub returns-in-2-clause-sound : goal.returns-in-2-clause-sound
 returns-in-2-clause-sound c =
@@ -41,7 +41,7 @@ returns-in-2-clause-sound c =
 pub returns-in-3-clause-stepped : goal.returns-in-3-clause-stepped
 unfolding step remote
 returns-in-3-clause-stepped c =
-    stepped (locks (memory_of c.args.self) c.args.step.w) c.args.step.w (rw c.in-3.is refl)
+    stepped (locks (memory_of c.args.self) c.args.step.w) c.args.step.w (search rules)
     (search rules) refl c.requires.asked.hold (search rules) (search rules)
 
 pub with_next-requires-in-4 : goal.with_next-requires-in-4
@@ -51,8 +51,8 @@ with_next-requires-in-4 c = c.requires.sound.pred c.args.step.w
 pub returns-in-4-clause-stepped : goal.returns-in-4-clause-stepped
 unfolding step remote view
 returns-in-4-clause-stepped c =
-    stepped (links (memory_of c.args.self) c.args.step.w) (view 0 c.args.self.pred c.args.step.w) (rw c.in-4.is refl)
-    (rw (sym (add-one c.args.step.w)) (search rules)) refl c.requires.asked.hold (search rules) (search rules)
+    stepped (links (memory_of c.args.self) c.args.step.w) (view 0 c.args.self.pred c.args.step.w) (search rules)
+    (search rules) refl c.requires.asked.hold (search rules) (search rules)
 
 pub returns-in-4-clause-sound : goal.returns-in-4-clause-sound
 returns-in-4-clause-sound c =
@@ -61,21 +61,21 @@ returns-in-4-clause-sound c =
 pub returns-then-locked-i-eq0-clause-stepped : goal.returns-then-locked-i-eq0-clause-stepped
 unfolding step remote view
 returns-then-locked-i-eq0-clause-stepped c =
-    stepped (waits 0 (memory_of c.args.self) c.args.step.w) c.args.step.w (rw (c.in-5.is, c.if-locked-i-eq0.true) refl)
+    stepped (waits 0 (memory_of c.args.self) c.args.step.w) c.args.step.w (search rules)
     (search rules) refl c.requires.asked.hold (search rules) (search rules)
 
 pub returns-in-5-clause-stepped : goal.returns-in-5-clause-stepped
 unfolding step remote view
 returns-in-5-clause-stepped c =
     let q : view 0 c.args.self.locked c.args.step.w ≡ suc (view 0 c.args.self.locked c.args.step.w - 1) = omega (arith, c.if-locked-i-eq0.false) in
-    stepped (waits (suc (view 0 c.args.self.locked c.args.step.w - 1)) (memory_of c.args.self) c.args.step.w) c.args.step.w (rw c.in-5.is (ap (λ n. waits n (memory_of c.args.self) c.args.step.w) q))
+    stepped (waits (suc (view 0 c.args.self.locked c.args.step.w - 1)) (memory_of c.args.self) c.args.step.w) c.args.step.w (search (q, rules))
     (search rules) refl c.requires.asked.hold (search rules) (search rules)
 
 pub returns-then-n-ne0-clause-stepped : goal.returns-then-n-ne0-clause-stepped
 unfolding step remote view
 returns-then-n-ne0-clause-stepped c =
     let q : view 0 c.args.self.next c.args.step.w ≡ suc (view 0 c.args.self.next c.args.step.w - 1) = omega (arith, c.if-n-ne0.true) in
-    stepped (looks (suc (view 0 c.args.self.next c.args.step.w - 1)) (memory_of c.args.self) c.args.step.w) c.args.step.w (elim c.in-7.is [ inl e ↦ rw e (ap (λ n. looks n (memory_of c.args.self) c.args.step.w) q) | inr e ↦ rw e (ap (λ n. rereads n (memory_of c.args.self) c.args.step.w) q) ])
+    stepped (looks (suc (view 0 c.args.self.next c.args.step.w - 1)) (memory_of c.args.self) c.args.step.w) c.args.step.w (elim c.in-7.is [ inl e ↦ search (e, q, rules) | inr e ↦ search (e, q, rules) ])
     (search rules) refl c.requires.asked.hold (search rules) (search rules)
 
 pub returns-then-n-ne0-clause-sound : goal.returns-then-n-ne0-clause-sound
@@ -86,26 +86,25 @@ returns-then-n-ne0-clause-sound c =
 pub returns-then-step-eq7-clause-stepped : goal.returns-then-step-eq7-clause-stepped
 unfolding step remote view
 returns-then-step-eq7-clause-stepped c =
-    stepped (looks 0 (memory_of c.args.self) c.args.step.w) c.args.step.w (rw (c.if-step-eq7.true, c.if-n-ne0.false) refl)
+    stepped (looks 0 (memory_of c.args.self) c.args.step.w) c.args.step.w (search rules)
     (search rules) refl c.requires.asked.hold (search rules) (search rules)
 
 pub returns-in-7-clause-stepped : goal.returns-in-7-clause-stepped
 unfolding step remote view
 returns-in-7-clause-stepped c =
-    let k : c.args.step.at ≡ 9 = search rules in
-    stepped (rereads 0 (memory_of c.args.self) c.args.step.w) c.args.step.w (rw (k, c.if-n-ne0.false) refl)
+    stepped (rereads 0 (memory_of c.args.self) c.args.step.w) c.args.step.w (search rules)
     (search rules) refl c.requires.asked.hold (search rules) (search rules)
 
 pub returns-then-self-w-clause-stepped : goal.returns-then-self-w-clause-stepped
 unfolding step remote
 returns-then-self-w-clause-stepped c =
-    stepped (drains true (settings_of c.args.s.now) (memory_of c.args.self)) c.args.s.now.home (rw (c.in-8.is, eq-eqb _ _ (c.if-self-w.true ∙ add-one c.args.step.w)) refl)
+    stepped (drains true (settings_of c.args.s.now) (memory_of c.args.self)) c.args.s.now.home (search rules)
     (search rules) refl c.requires.asked.hold (search rules) (search rules)
 
 pub returns-in-8-clause-stepped : goal.returns-in-8-clause-stepped
 unfolding step remote
 returns-in-8-clause-stepped c =
-    stepped (drains false (settings_of c.args.s.now) (memory_of c.args.self)) c.args.s.now.home (rw (c.in-8.is, ne_eqb _ _ (λ e. c.if-self-w.false (e ∙ sym (add-one c.args.step.w)))) refl)
+    stepped (drains false (settings_of c.args.s.now) (memory_of c.args.self)) c.args.s.now.home (search rules)
     (search rules) refl c.requires.asked.hold (search rules) (search rules)
 
 pub with_locked-requires-in_default : goal.with_locked-requires-in_default
@@ -115,6 +114,5 @@ with_locked-requires-in_default c = c.requires.sound.succ c.args.step.w
 pub returns-in_default-clause-stepped : goal.returns-in_default-clause-stepped
 unfolding step remote view
 returns-in_default-clause-stepped c =
-    stepped (wakes (memory_of c.args.self) c.args.step.w) (view 0 c.args.self.succ c.args.step.w)
-    (rw (ne_eqb c.args.step.at 1 (search rules), ne_eqb c.args.step.at 2 (search rules), ne_eqb c.args.step.at 3 (search rules), ne_eqb c.args.step.at 4 (search rules), ne_eqb c.args.step.at 5 (search rules), ne_eqb c.args.step.at 7 (search rules), ne_eqb c.args.step.at 8 (search rules), ne_eqb c.args.step.at 9 (search rules)) refl)
+    stepped (wakes (memory_of c.args.self) c.args.step.w) (view 0 c.args.self.succ c.args.step.w) (search rules)
     (search rules) refl c.requires.asked.hold (search rules) (search rules)
