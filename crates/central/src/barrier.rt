@@ -23,6 +23,7 @@ fn toggled(sense: u8) -> u8
 
 impl Central {
     // Processor i toggles its local sense and is counted.
+    #[tactic(auto, using(rules::proofs::Views::view_set, rules::proofs::Views::view_at))]
     fn counts(self, i: usize) -> Central
         requires { i < 64 }
         ensures { memory_of result ≡ record { count = self.count - 1; sense = self.sense; local = upd (memory_of self).local i (1 - (memory_of self).local i) } }
@@ -47,6 +48,7 @@ impl Central {
     }
 
     // The sense becomes processor i's local sense.
+    #[tactic(auto, using(rules::proofs::Views::view_at))]
     fn opens(self, i: usize) -> Central
         requires { i < 64 }
         ensures { memory_of result ≡ record { count = self.count; sense = (memory_of self).local i; local = (memory_of self).local } }

@@ -1,17 +1,9 @@
--- Equal states of the MCS lock, and what keeps a state sound.
-use Rattle.std.proofs.Common.{◌≡◌, ℕ, ◌≤◌, ◌<◌, eqb, arith}
-use Rattle.rules.specs.Memory.{upd, each}
+-- A store keeps a state of the MCS lock sound.
+use Rattle.std.proofs.Common.{ℕ, ◌≤◌, ◌<◌, eqb}
+use Rattle.rules.specs.Memory.{upd}
 use Rattle.rules.specs.Mcs.{State, set_tail, set_next, set_pred, set_succ}
 use Rattle.rules.proofs.Store.{either}
 use Rattle.mcs.specs.McsView.{Sound}
-
-pub same_state : (a b : State) → a.tail ≡ b.tail → a.next ≡ b.next → a.locked ≡ b.locked → a.pred ≡ b.pred → a.succ ≡ b.succ → a ≡ b
-same_state a b p q r s t = λ j. record { tail = p j; next = q j; locked = r j; pred = s j; succ = t j }
-
--- ---- the first state is sound, and a store keeps a state sound
-
-pub sound_blank : {x : State} → x.tail ≡ 0 → x.next ≡ each 0 → x.pred ≡ each 0 → x.succ ≡ each 0 → Sound x
-sound_blank t n p s = record { tail = rw t (omega arith); next = λ j. rw n (omega arith); pred = λ j. rw p (omega arith); succ = λ j. rw s (omega arith) }
 
 -- what every place has, and the new value, every place has after the store
 upd_keeps : (P : ℕ → Type 0) (f : ℕ → ℕ) (i v : ℕ) → ((j : ℕ) → P (f j)) → P v → (j : ℕ) → P (upd f i v j)

@@ -25,6 +25,7 @@ impl Mcs {
         Mcs { tail: v, ..self }
     }
 
+    #[tactic(auto, using(rules::proofs::Views::view_set))]
     fn with_next(self, q: usize, v: u8) -> Mcs
         requires { q < 64 }
         ensures { memory_of result ≡ set_next q v (memory_of self) }
@@ -34,6 +35,7 @@ impl Mcs {
         Mcs { next, ..self }
     }
 
+    #[tactic(auto, using(rules::proofs::Views::view_set))]
     fn with_locked(self, q: usize, v: u8) -> Mcs
         requires { q < 64 }
         ensures { memory_of result ≡ set_locked q v (memory_of self) }
@@ -43,6 +45,7 @@ impl Mcs {
         Mcs { locked, ..self }
     }
 
+    #[tactic(auto, using(rules::proofs::Views::view_set))]
     fn with_pred(self, q: usize, v: u8) -> Mcs
         requires { q < 64 }
         ensures { memory_of result ≡ set_pred q v (memory_of self) }
@@ -52,6 +55,7 @@ impl Mcs {
         Mcs { pred, ..self }
     }
 
+    #[tactic(auto, using(rules::proofs::Views::view_set))]
     fn with_succ(self, q: usize, v: u8) -> Mcs
         requires { q < 64 }
         ensures { memory_of result ≡ set_succ q v (memory_of self) }

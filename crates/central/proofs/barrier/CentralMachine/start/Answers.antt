@@ -1,8 +1,7 @@
 -- The central barrier's `start` meets its contract.
 use Rattle.std.proofs.Common.{refl}
 use Rattle.rules.proofs.Views.{view_blank}
-use Rattle.central.proofs.CentralStates.{same_state}
 use Rattle.central.proofs.barrier.CentralMachine.start.Goals as goal
 
 pub returns-clause-memory : goal.returns-clause-memory
-returns-clause-memory c = same_state _ _ refl refl (view_blank 64 1)
+returns-clause-memory c = rw (view_blank 64 1) refl

@@ -1,5 +1,5 @@
 -- The central barrier's `step` meets its contract: each return is one of the rules' steps.
-use Rattle.std.proofs.Common.{true, false, ◌≡◌, eqb, refl, ap, ◌∙◌, eq-eqb, ne_eqb, rules}
+use Rattle.std.proofs.Common.{true, false, ◌≡◌, eqb, refl, eq-eqb, ne_eqb, rules}
 use Rattle.rules.specs.Memory.{pick}
 use Rattle.rules.specs.Step.{remote, to}
 use Rattle.rules.specs.Central.{counts, resets, opens, waits, step}
@@ -14,35 +14,33 @@ pub returns-in-1-clause-stepped : goal.returns-in-1-clause-stepped
 unfolding step remote
 returns-in-1-clause-stepped c =
     let next : c.if-self-eq1.next ≡ pick (eqb c.args.self.count 1) 2 4 =
-    elim c.if-self-eq1.branch [ then-self-eq1 w ↦ rw (w.next-is, eq-eqb _ _ w.if-self-eq1.true) refl | else-self-eq1 w ↦ rw (w.next-is, ne_eqb _ _ w.if-self-eq1.false) refl ] in
+    elim c.if-self-eq1.branch [ then-self-eq1 w ↦ rw (w.next-is, eq-eqb c.args.self.count 1 w.if-self-eq1.true) refl | else-self-eq1 w ↦ rw (w.next-is, ne_eqb c.args.self.count 1 w.if-self-eq1.false) refl ] in
     let did = counts (settings_of c.args.s.now) (memory_of c.args.self) c.args.step.w in
     stepped (record { memory = did.memory; access = did.access; says = did.says; then = to c.if-self-eq1.next }) c.args.s.now.home (rw (c.in-1.is, next) refl)
-    (ap memory_of c.to.ensures.memory ∙ c.counts.ensures) refl c.requires.asked.hold c.to.ensures.course c.to.ensures.tells
+    (search rules) refl c.requires.asked.hold (search rules) (search rules)
 
 pub returns-in-2-clause-stepped : goal.returns-in-2-clause-stepped
 unfolding step remote
 returns-in-2-clause-stepped c =
-    stepped (resets (settings_of c.args.s.now) (memory_of c.args.self)) c.args.s.now.home (rw c.in-2.is refl)
-    (ap memory_of c.to-in-2.ensures.memory ∙ c.resets.ensures) refl c.requires.asked.hold c.to-in-2.ensures.course c.to-in-2.ensures.tells
+    stepped (resets (settings_of c.args.s.now) (memory_of c.args.self)) c.args.s.now.home (search rules)
+    (search rules) refl c.requires.asked.hold (search rules) (search rules)
 
 pub returns-in-3-clause-stepped : goal.returns-in-3-clause-stepped
 unfolding step remote
 returns-in-3-clause-stepped c =
-    stepped (opens (settings_of c.args.s.now) (memory_of c.args.self) c.args.step.w) c.args.s.now.home (rw c.in-3.is refl)
-    (ap memory_of c.over.ensures.memory ∙ c.opens.ensures) refl c.requires.asked.hold c.over.ensures.course c.over.ensures.tells
+    stepped (opens (settings_of c.args.s.now) (memory_of c.args.self) c.args.step.w) c.args.s.now.home (search rules)
+    (search rules) refl c.requires.asked.hold (search rules) (search rules)
 
 pub returns-then-self-local-clause-stepped : goal.returns-then-self-local-clause-stepped
 unfolding step remote
 returns-then-self-local-clause-stepped c =
     let p : Place c.args.self.local c.args.step.w = search rules in
-    stepped (waits true (settings_of c.args.s.now) (memory_of c.args.self)) c.args.s.now.home
-    (rw (ne_eqb c.args.step.at 1 (search rules), ne_eqb c.args.step.at 2 (search rules), ne_eqb c.args.step.at 3 (search rules), view_at 1 p, eq-eqb _ _ c.if-self-local.true) refl)
-    (ap memory_of c.over-then-self-local.ensures.memory) refl c.requires.asked.hold c.over-then-self-local.ensures.course c.over-then-self-local.ensures.tells
+    stepped (waits true (settings_of c.args.s.now) (memory_of c.args.self)) c.args.s.now.home (rw (view_at 1 p) (search rules))
+    (search rules) refl c.requires.asked.hold (search rules) (search rules)
 
 pub returns-in_default-clause-stepped : goal.returns-in_default-clause-stepped
 unfolding step remote
 returns-in_default-clause-stepped c =
     let p : Place c.args.self.local c.args.step.w = search rules in
-    stepped (waits false (settings_of c.args.s.now) (memory_of c.args.self)) c.args.s.now.home
-    (rw (ne_eqb c.args.step.at 1 (search rules), ne_eqb c.args.step.at 2 (search rules), ne_eqb c.args.step.at 3 (search rules), view_at 1 p, ne_eqb _ _ c.if-self-local.false) refl)
-    (ap memory_of c.stay.ensures.memory) refl c.requires.asked.hold c.stay.ensures.course c.stay.ensures.tells
+    stepped (waits false (settings_of c.args.s.now) (memory_of c.args.self)) c.args.s.now.home (rw (view_at 1 p) (search rules))
+    (search rules) refl c.requires.asked.hold (search rules) (search rules)

@@ -1,7 +1,7 @@
 -- The MCS lock's `step` meets its contract: each return is one of the rules' steps, and leaves a sound state.
-use Rattle.std.proofs.Common.{true, false, suc, ◌-◌, ◌≡◌, inl, inr, refl, sym, ap, add-one, ◌∙◌, eq-eqb, ne_eqb, rules, arith}
+use Rattle.std.proofs.Common.{true, false, suc, ◌-◌, ◌≡◌, inl, inr, refl, rules, arith}
 use Rattle.rules.specs.Step.{remote}
-use Rattle.rules.specs.Mcs.{set_tail, clears, swaps, locks, links, waits, looks, drains, rereads, wakes, step}
+use Rattle.rules.specs.Mcs.{clears, swaps, locks, links, waits, looks, drains, rereads, wakes, step}
 use Rattle.rules.proofs.Views.{view}
 use Rattle.settings.specs.View.{settings_of}
 use Rattle.turns.proofs.Turning.{stepped}
@@ -12,8 +12,8 @@ use Rattle.mcs.proofs.lock.McsMachine.step.Goals as goal
 pub returns-in-1-clause-stepped : goal.returns-in-1-clause-stepped
 unfolding step remote
 returns-in-1-clause-stepped c =
-    stepped (clears (memory_of c.args.self) c.args.step.w) c.args.step.w (rw c.in-1.is refl)
-    (ap memory_of c.to.ensures.memory ∙ c.with_next.ensures) refl c.requires.asked.hold c.to.ensures.course c.to.ensures.tells
+    stepped (clears (memory_of c.args.self) c.args.step.w) c.args.step.w (search rules)
+    (search rules) refl c.requires.asked.hold (search rules) (search rules)
 
 pub returns-in-1-clause-sound : goal.returns-in-1-clause-sound
 returns-in-1-clause-sound c =
@@ -22,15 +22,15 @@ returns-in-1-clause-sound c =
 pub returns-then-self-eq0-clause-stepped : goal.returns-then-self-eq0-clause-stepped
 unfolding step remote
 returns-then-self-eq0-clause-stepped c =
-    stepped (swaps 0 (settings_of c.args.s.now) (memory_of c.args.self) c.args.step.w) c.args.s.now.home (rw c.in-2.is (ap (λ n. swaps n (settings_of c.args.s.now) (memory_of c.args.self) c.args.step.w) c.if-self-eq0.true))
-    (ap memory_of c.to-then-self-eq0.ensures.memory ∙ rw (add-one c.args.step.w) at c.with_tail.ensures) refl c.requires.asked.hold c.to-then-self-eq0.ensures.course c.to-then-self-eq0.ensures.tells
+    stepped (swaps 0 (settings_of c.args.s.now) (memory_of c.args.self) c.args.step.w) c.args.s.now.home (search rules)
+    (search rules) refl c.requires.asked.hold (search rules) (search rules)
 
 pub returns-in-2-clause-stepped : goal.returns-in-2-clause-stepped
 unfolding step remote
 returns-in-2-clause-stepped c =
     let q : c.args.self.tail ≡ suc (c.args.self.tail - 1) = omega (arith, c.if-self-eq0.false) in
-    stepped (swaps (suc (c.args.self.tail - 1)) (settings_of c.args.s.now) (memory_of c.args.self) c.args.step.w) c.args.s.now.home (rw c.in-2.is (ap (λ n. swaps n (settings_of c.args.s.now) (memory_of c.args.self) c.args.step.w) q))
-    (ap memory_of c.to-in-2.ensures.memory ∙ rw (add-one c.args.step.w) at c.with_tail-in-2.ensures ∙ ap (set_tail (suc c.args.step.w)) c.with_pred.ensures) refl c.requires.asked.hold c.to-in-2.ensures.course c.to-in-2.ensures.tells
+    stepped (swaps (suc (c.args.self.tail - 1)) (settings_of c.args.s.now) (memory_of c.args.self) c.args.step.w) c.args.s.now.home (search (q, rules))
+    (search rules) refl c.requires.asked.hold (search rules) (search rules)
 
 pub returns-in-2-clause-sound : goal.returns-in-2-clause-sound
 returns-in-2-clause-sound c =
@@ -41,8 +41,8 @@ returns-in-2-clause-sound c =
 pub returns-in-3-clause-stepped : goal.returns-in-3-clause-stepped
 unfolding step remote
 returns-in-3-clause-stepped c =
-    stepped (locks (memory_of c.args.self) c.args.step.w) c.args.step.w (rw c.in-3.is refl)
-    (ap memory_of c.to-in-3.ensures.memory ∙ c.with_locked.ensures) refl c.requires.asked.hold c.to-in-3.ensures.course c.to-in-3.ensures.tells
+    stepped (locks (memory_of c.args.self) c.args.step.w) c.args.step.w (search rules)
+    (search rules) refl c.requires.asked.hold (search rules) (search rules)
 
 pub with_next-requires-in-4 : goal.with_next-requires-in-4
 unfolding view
@@ -51,8 +51,8 @@ with_next-requires-in-4 c = c.requires.sound.pred c.args.step.w
 pub returns-in-4-clause-stepped : goal.returns-in-4-clause-stepped
 unfolding step remote view
 returns-in-4-clause-stepped c =
-    stepped (links (memory_of c.args.self) c.args.step.w) (view 0 c.args.self.pred c.args.step.w) (rw c.in-4.is refl)
-    (ap memory_of c.to-in-4.ensures.memory ∙ rw (add-one c.args.step.w) at c.with_next-in-4.ensures) refl c.requires.asked.hold c.to-in-4.ensures.course c.to-in-4.ensures.tells
+    stepped (links (memory_of c.args.self) c.args.step.w) (view 0 c.args.self.pred c.args.step.w) (search rules)
+    (search rules) refl c.requires.asked.hold (search rules) (search rules)
 
 pub returns-in-4-clause-sound : goal.returns-in-4-clause-sound
 returns-in-4-clause-sound c =
@@ -61,22 +61,22 @@ returns-in-4-clause-sound c =
 pub returns-then-locked-i-eq0-clause-stepped : goal.returns-then-locked-i-eq0-clause-stepped
 unfolding step remote view
 returns-then-locked-i-eq0-clause-stepped c =
-    stepped (waits 0 (memory_of c.args.self) c.args.step.w) c.args.step.w (rw c.in-5.is (ap (λ n. waits n (memory_of c.args.self) c.args.step.w) c.if-locked-i-eq0.true))
-    (ap memory_of c.to-then-locked-i-eq0.ensures.memory) refl c.requires.asked.hold c.to-then-locked-i-eq0.ensures.course c.to-then-locked-i-eq0.ensures.tells
+    stepped (waits 0 (memory_of c.args.self) c.args.step.w) c.args.step.w (search rules)
+    (search rules) refl c.requires.asked.hold (search rules) (search rules)
 
 pub returns-in-5-clause-stepped : goal.returns-in-5-clause-stepped
 unfolding step remote view
 returns-in-5-clause-stepped c =
-    let q : (view 0 c.args.self.locked c.args.step.w) ≡ suc ((view 0 c.args.self.locked c.args.step.w) - 1) = omega (arith, c.if-locked-i-eq0.false) in
-    stepped (waits (suc ((view 0 c.args.self.locked c.args.step.w) - 1)) (memory_of c.args.self) c.args.step.w) c.args.step.w (rw c.in-5.is (ap (λ n. waits n (memory_of c.args.self) c.args.step.w) q))
-    (ap memory_of c.stay.ensures.memory) refl c.requires.asked.hold c.stay.ensures.course c.stay.ensures.tells
+    let q : view 0 c.args.self.locked c.args.step.w ≡ suc (view 0 c.args.self.locked c.args.step.w - 1) = omega (arith, c.if-locked-i-eq0.false) in
+    stepped (waits (suc (view 0 c.args.self.locked c.args.step.w - 1)) (memory_of c.args.self) c.args.step.w) c.args.step.w (search (q, rules))
+    (search rules) refl c.requires.asked.hold (search rules) (search rules)
 
 pub returns-then-n-ne0-clause-stepped : goal.returns-then-n-ne0-clause-stepped
 unfolding step remote view
 returns-then-n-ne0-clause-stepped c =
-    let q : (view 0 c.args.self.next c.args.step.w) ≡ suc ((view 0 c.args.self.next c.args.step.w) - 1) = omega (arith, c.if-n-ne0.true) in
-    stepped (looks (suc ((view 0 c.args.self.next c.args.step.w) - 1)) (memory_of c.args.self) c.args.step.w) c.args.step.w (elim c.in-7.is [ inl e ↦ rw e (ap (λ n. looks n (memory_of c.args.self) c.args.step.w) q) | inr e ↦ rw e (ap (λ n. rereads n (memory_of c.args.self) c.args.step.w) q) ])
-    (ap memory_of c.to-then-n-ne0.ensures.memory ∙ c.with_succ.ensures) refl c.requires.asked.hold c.to-then-n-ne0.ensures.course c.to-then-n-ne0.ensures.tells
+    let q : view 0 c.args.self.next c.args.step.w ≡ suc (view 0 c.args.self.next c.args.step.w - 1) = omega (arith, c.if-n-ne0.true) in
+    stepped (looks (suc (view 0 c.args.self.next c.args.step.w - 1)) (memory_of c.args.self) c.args.step.w) c.args.step.w (elim c.in-7.is [ inl e ↦ search (e, q, rules) | inr e ↦ search (e, q, rules) ])
+    (search rules) refl c.requires.asked.hold (search rules) (search rules)
 
 pub returns-then-n-ne0-clause-sound : goal.returns-then-n-ne0-clause-sound
 unfolding view
@@ -86,27 +86,26 @@ returns-then-n-ne0-clause-sound c =
 pub returns-then-step-eq7-clause-stepped : goal.returns-then-step-eq7-clause-stepped
 unfolding step remote view
 returns-then-step-eq7-clause-stepped c =
-    stepped (looks 0 (memory_of c.args.self) c.args.step.w) c.args.step.w (rw c.if-step-eq7.true (ap (λ n. looks n (memory_of c.args.self) c.args.step.w) c.if-n-ne0.false))
-    (ap memory_of c.to-then-step-eq7.ensures.memory) refl c.requires.asked.hold c.to-then-step-eq7.ensures.course c.to-then-step-eq7.ensures.tells
+    stepped (looks 0 (memory_of c.args.self) c.args.step.w) c.args.step.w (search rules)
+    (search rules) refl c.requires.asked.hold (search rules) (search rules)
 
 pub returns-in-7-clause-stepped : goal.returns-in-7-clause-stepped
 unfolding step remote view
 returns-in-7-clause-stepped c =
-    let k : c.args.step.at ≡ 9 = search rules in
-    stepped (rereads 0 (memory_of c.args.self) c.args.step.w) c.args.step.w (rw k (ap (λ n. rereads n (memory_of c.args.self) c.args.step.w) c.if-n-ne0.false))
-    (ap memory_of c.stay-in-7.ensures.memory) refl c.requires.asked.hold c.stay-in-7.ensures.course c.stay-in-7.ensures.tells
+    stepped (rereads 0 (memory_of c.args.self) c.args.step.w) c.args.step.w (search rules)
+    (search rules) refl c.requires.asked.hold (search rules) (search rules)
 
 pub returns-then-self-w-clause-stepped : goal.returns-then-self-w-clause-stepped
 unfolding step remote
 returns-then-self-w-clause-stepped c =
-    stepped (drains true (settings_of c.args.s.now) (memory_of c.args.self)) c.args.s.now.home (rw (c.in-8.is, eq-eqb _ _ (c.if-self-w.true ∙ add-one c.args.step.w)) refl)
-    (ap memory_of c.over.ensures.memory ∙ c.with_tail-then-self-w.ensures) refl c.requires.asked.hold c.over.ensures.course c.over.ensures.tells
+    stepped (drains true (settings_of c.args.s.now) (memory_of c.args.self)) c.args.s.now.home (search rules)
+    (search rules) refl c.requires.asked.hold (search rules) (search rules)
 
 pub returns-in-8-clause-stepped : goal.returns-in-8-clause-stepped
 unfolding step remote
 returns-in-8-clause-stepped c =
-    stepped (drains false (settings_of c.args.s.now) (memory_of c.args.self)) c.args.s.now.home (rw (c.in-8.is, ne_eqb _ _ (λ e. c.if-self-w.false (e ∙ sym (add-one c.args.step.w)))) refl)
-    (ap memory_of c.to-in-8.ensures.memory) refl c.requires.asked.hold c.to-in-8.ensures.course c.to-in-8.ensures.tells
+    stepped (drains false (settings_of c.args.s.now) (memory_of c.args.self)) c.args.s.now.home (search rules)
+    (search rules) refl c.requires.asked.hold (search rules) (search rules)
 
 pub with_locked-requires-in_default : goal.with_locked-requires-in_default
 unfolding view
@@ -115,5 +114,5 @@ with_locked-requires-in_default c = c.requires.sound.succ c.args.step.w
 pub returns-in_default-clause-stepped : goal.returns-in_default-clause-stepped
 unfolding step remote view
 returns-in_default-clause-stepped c =
-    stepped (wakes (memory_of c.args.self) c.args.step.w) (view 0 c.args.self.succ c.args.step.w) (rw (ne_eqb c.args.step.at 1 (search rules), ne_eqb c.args.step.at 2 (search rules), ne_eqb c.args.step.at 3 (search rules), ne_eqb c.args.step.at 4 (search rules), ne_eqb c.args.step.at 5 (search rules), ne_eqb c.args.step.at 7 (search rules), ne_eqb c.args.step.at 8 (search rules), ne_eqb c.args.step.at 9 (search rules)) refl)
-    (ap memory_of c.over-in_default.ensures.memory ∙ c.with_locked-in_default.ensures) refl c.requires.asked.hold c.over-in_default.ensures.course c.over-in_default.ensures.tells
+    stepped (wakes (memory_of c.args.self) c.args.step.w) (view 0 c.args.self.succ c.args.step.w) (search rules)
+    (search rules) refl c.requires.asked.hold (search rules) (search rules)
