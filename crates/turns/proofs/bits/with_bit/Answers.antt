@@ -5,7 +5,7 @@ use Rattle.turns.proofs.bits.with_bit.Goals as goal
 
 pub returns-then-bit-value : goal.returns-then-bit-value
 returns-then-bit-value c =
-    bit_kept _ _ _ (sym c.bit.ensures ∙ search rules)
+    search (bit_kept, rules)
 
 pub returns : goal.returns
 returns c =
