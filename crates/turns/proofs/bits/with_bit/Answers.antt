@@ -1,5 +1,5 @@
 -- `turns::bits::with_bit` meets its contract.
-use Rattle.std.proofs.Common.{rules, sym, ◌∙◌, arith}
+use Rattle.std.proofs.Common.{rules, arith}
 use Rattle.turns.proofs.Words.{bit_kept, bit_changed}
 use Rattle.turns.proofs.bits.with_bit.Goals as goal
 
