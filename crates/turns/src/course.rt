@@ -34,7 +34,7 @@ fn after_hold(step: u8, hold: u8) -> u8
 
 impl Course {
     // Everybody is at step 1 of the first passage.
-    pub fn start() -> Course
+    pub(crate) fn start() -> Course
         ensures { course_of result ≡ outset }
     {
         Course {
@@ -45,7 +45,7 @@ impl Course {
         }
     }
 
-    pub fn due(self, i: usize, rounds: u16) -> Due
+    pub(crate) fn due(self, i: usize, rounds: u16) -> Due
         requires { i < 64 }
         ensures { Dues (course_of self) i rounds result }
     {
@@ -64,7 +64,7 @@ impl Course {
     }
 
     // After a hold turn of processor i.
-    pub fn held(self, i: usize) -> Course
+    pub(crate) fn held(self, i: usize) -> Course
         requires in_rows { i < 64 }
         requires left { 0 < (course_of self).left i }
         ensures { course_of result ≡ held (course_of self) i }
@@ -78,7 +78,7 @@ impl Course {
     }
 
     // Processor i goes to this step, after its hold turns.
-    pub fn goes(self, i: usize, step: u8, hold: u8) -> Course
+    pub(crate) fn goes(self, i: usize, step: u8, hold: u8) -> Course
         requires in_rows { i < 64 }
         requires step { step < holds }
         ensures { course_of result ≡ gone_to (course_of self) i step hold }
@@ -91,7 +91,7 @@ impl Course {
     }
 
     // One passage more of processor i is done.
-    pub fn ends(self, i: usize) -> Course
+    pub(crate) fn ends(self, i: usize) -> Course
         requires in_rows { i < 64 }
         requires few { (course_of self).done i < 65535 }
         ensures { course_of result ≡ ended (course_of self) i }

@@ -12,7 +12,6 @@ mod says;
 mod step;
 
 pub use bits::{bit, with_bit};
-pub use course::Course;
 pub use machine::{Machine, State};
 pub use played::{Played, Stop};
 pub use playing::play;

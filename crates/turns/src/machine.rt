@@ -128,6 +128,7 @@ impl Step {
         ensures memory { result.memory ≡ memory }
         ensures course { course_of result.course ≡ goes_on (course_of self.course) self.w nothing stay self.hold }
         ensures tells { told_of self.w result.made ≡ told_so self.w self.at owner nothing stay }
+        ensures owner { result.made.owner ≡ owner }
     {
         State {
             memory,
@@ -142,6 +143,7 @@ impl Step {
         ensures memory { result.memory ≡ memory }
         ensures course { course_of result.course ≡ goes_on (course_of self.course) self.w (says_of says) (again at) self.hold }
         ensures tells { told_of self.w result.made ≡ told_so self.w self.at owner (says_of says) (again at) }
+        ensures owner { result.made.owner ≡ owner }
     {
         State {
             memory,
@@ -156,6 +158,7 @@ impl Step {
         ensures memory { result.memory ≡ memory }
         ensures course { course_of result.course ≡ goes_on (course_of self.course) self.w (says_of says) (to at) self.hold }
         ensures tells { told_of self.w result.made ≡ told_so self.w self.at owner (says_of says) (to at) }
+        ensures owner { result.made.owner ≡ owner }
     {
         State {
             memory,
@@ -169,6 +172,7 @@ impl Step {
         ensures memory { result.memory ≡ memory }
         ensures course { course_of result.course ≡ goes_on (course_of self.course) self.w (says_of says) over self.hold }
         ensures tells { told_of self.w result.made ≡ told_so self.w self.at owner (says_of says) over }
+        ensures owner { result.made.owner ≡ owner }
     {
         let i = self.w as usize;
         State {

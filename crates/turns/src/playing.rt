@@ -24,7 +24,7 @@ pub fn play<M: Machine>(trial: Trial<'_>, events: &mut [u16]) -> Played
             break (Stop::UsedUp, k);
         };
         let i = w as usize;
-        // Each arm stores the next state by itself: in a function of its own, or as the value of the match, it costs twice as much.
+        // Each arm stores the next state by itself: in a function of its own, or as the value of the match, a turn costs up to 70 percent more.
         match state.course.due(i, trial.settings.rounds[i]) {
             Due::Hold => state = state.holds(w),
             Due::Idle => state = state.idles(w),

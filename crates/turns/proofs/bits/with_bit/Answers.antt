@@ -1,11 +1,11 @@
 -- `turns::bits::with_bit` meets its contract.
-use Rattle.std.proofs.Common.{rules, sym, ◌∙◌, arith}
+use Rattle.std.proofs.Common.{rules, arith}
 use Rattle.turns.proofs.Words.{bit_kept, bit_changed}
 use Rattle.turns.proofs.bits.with_bit.Goals as goal
 
 pub returns-then-bit-value : goal.returns-then-bit-value
 returns-then-bit-value c =
-    bit_kept _ _ _ (sym c.bit.ensures ∙ search rules)
+    search (bit_kept, rules)
 
 pub returns : goal.returns
 returns c =
