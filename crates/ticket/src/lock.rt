@@ -17,6 +17,7 @@ pub struct Ticket {
 
 impl Ticket {
     // Processor i takes the next ticket. After 65535 comes 0.
+    #[tactic(auto, using(rules::proofs::Views::view_set))]
     fn asks(self, i: usize) -> Ticket
         requires { i < 64 }
         ensures { memory_of result ≡ set_mine i self.request (set_request (up self.request) (memory_of self)) }
@@ -31,6 +32,7 @@ impl Ticket {
     }
 
     // Processor i reads the release counter.
+    #[tactic(auto, using(rules::proofs::Views::view_set))]
     fn finds(self, i: usize) -> Ticket
         requires { i < 64 }
         ensures { memory_of result ≡ set_found i self.release (memory_of self) }
@@ -41,6 +43,7 @@ impl Ticket {
     }
 
     // Processor i writes the release counter, one higher than it found it: the next ticket is served. After 65535 comes 0.
+    #[tactic(auto, using(rules::proofs::Views::view_at))]
     fn frees(self, i: usize) -> Ticket
         requires { i < 64 }
         ensures { memory_of result ≡ set_release (up ((memory_of self).found i)) (memory_of self) }
