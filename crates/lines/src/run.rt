@@ -37,7 +37,7 @@ impl fmt::Display for Run<'_> {
             table,
             events,
         } = *self;
-        let stop = answer.stop.number();
+        let stop = u8::from(answer.stop);
         writeln!(
             f,
             "turns={}\nstop={stop}\nremote={}",

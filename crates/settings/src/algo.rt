@@ -6,11 +6,11 @@ use crate::refusal::Refusal;
 
 #[derive(Clone, Copy, Debug, PartialEq, Eq)]
 pub enum Algo {
-    Ticket,
-    Mcs,
-    Central,
-    Dissem,
-    Tree,
+    Ticket = 1,
+    Mcs = 2,
+    Central = 3,
+    Dissem = 4,
+    Tree = 5,
 }
 
 const ALL: [Algo; 5] = [
@@ -25,13 +25,7 @@ impl From<Algo> for u16 {
     ghost from_gives = { λ a n. n ≡ algo_number a };
 
     fn from(a: Algo) -> u16 {
-        match a {
-            Algo::Ticket => 1,
-            Algo::Mcs => 2,
-            Algo::Central => 3,
-            Algo::Dissem => 4,
-            Algo::Tree => 5,
-        }
+        a as u16
     }
 }
 

@@ -1,4 +1,4 @@
-// Why a call is refused.
+// Why a call is refused, with document 01's numbers.
 ghost use Rattle.std.specs.Prelude.{◌≡◌};
 ghost use Rattle.settings.specs.Numbers.{refusal_number};
 
@@ -8,31 +8,24 @@ use std::fmt;
 #[derive(Clone, Copy, Debug, PartialEq, Eq)]
 pub enum Refusal {
     // The bytes leave the form of a file.
-    Malformed,
+    Malformed = 1,
     // A name or number of no machine.
-    Unknown,
+    Unknown = 2,
     // A value outside its range, or an entry past procs that is not zero.
-    Outside,
+    Outside = 3,
     // A turn names a processor not below procs.
-    Stray,
-    TooMany,
+    Stray = 4,
+    // Of turns.
+    TooMany = 5,
     // A lent buffer is too short.
-    TooShort,
+    TooShort = 6,
 }
 
-// Document 01's number.
 impl From<Refusal> for u8 {
     ghost from_gives = { λ r n. n ≡ refusal_number r };
 
     fn from(r: Refusal) -> u8 {
-        match r {
-            Refusal::Malformed => 1,
-            Refusal::Unknown => 2,
-            Refusal::Outside => 3,
-            Refusal::Stray => 4,
-            Refusal::TooMany => 5,
-            Refusal::TooShort => 6,
-        }
+        r as u8
     }
 }
 

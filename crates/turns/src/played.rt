@@ -5,8 +5,8 @@ ghost use Rattle.turns.specs.Stopping.{stop_number};
 // Why the run ended: the schedule is used up, or the next turn would be past the budget.
 #[derive(Clone, Copy, Debug, PartialEq, Eq)]
 pub enum Stop {
-    UsedUp,
-    Budget,
+    UsedUp = 0,
+    Budget = 1,
 }
 
 // taken: turns. events: how many. sums: six numbers for each processor.
@@ -19,13 +19,10 @@ pub struct Played {
     pub sums: [u16; 384],
 }
 
-impl Stop {
-    pub fn number(self) -> u8
-        ensures { result ≡ stop_number self }
-    {
-        match self {
-            Stop::UsedUp => 0,
-            Stop::Budget => 1,
-        }
+impl From<Stop> for u8 {
+    ghost from_gives = { λ s n. n ≡ stop_number s };
+
+    fn from(s: Stop) -> u8 {
+        s as u8
     }
 }

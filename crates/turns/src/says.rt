@@ -22,13 +22,15 @@ pub enum Says {
     Two(Kind, Kind),
 }
 
-impl Kind {
-    pub fn number(self) -> u16
-        ensures { result ≡ number (kind_of self) }
-    {
-        self as u16
-    }
+impl From<Kind> for u16 {
+    ghost from_gives = { λ k n. n ≡ number (kind_of k) };
 
+    fn from(k: Kind) -> u16 {
+        k as u16
+    }
+}
+
+impl Kind {
     // Hold turns follow the grant of a lock and the leaving of a barrier.
     fn begins(self) -> bool
         ensures { result ≡ begins (kind_of self) }
