@@ -1,5 +1,5 @@
 -- Laws for a loop over the schedule, of any machine.
-use Rattle.std.proofs.Common.{◌≡◌, refl, sym, ap, ◌∙◌, List, [], ◌∷◌, ◌++◌, map, ℕ, zero, suc, ◌+◌, ◌*◌, ◌≤◌, ◌<◌, arith, w32, Fits, length, get_or, replicate, length-append, false, ltb, ltb-false}
+use Rattle.std.proofs.Common.{◌≡◌, refl, sym, ap, ◌∙◌, List, [], ◌∷◌, ◌++◌, map, ℕ, zero, suc, ◌+◌, ◌*◌, ◌≤◌, ◌<◌, arith, length, get_or, replicate, length-append, false, ltb, ltb-false}
 use lib.ListN.{length-replicate, length-map}
 use lib.Seq.{length-sets}
 use Rattle.rules.specs.Memory.{pick}
@@ -13,7 +13,7 @@ use Rattle.rules.specs.Calls.{over}
 use Rattle.rules.proofs.Accepted.{Accepted, Below, accepted}
 use Rattle.rules.proofs.Views.{column, column_blank, over_next}
 use Rattle.rules.proofs.Counts.{Table≤}
-use Rattle.rules.proofs.Turned.{Told, told, Turned, same_tally, far≤, codes≤, done_told}
+use Rattle.rules.proofs.Turned.{Told, told, Turned, same_tally, codes≤, done_told}
 use Rattle.rules.proofs.Going.{Going, As, going_first, going_all, going_past, going_next, as_next}
 use Rattle.settings.specs.View.{settings_of}
 use Rattle.settings.specs.declared.trial.Trial.{Trial}
@@ -123,7 +123,6 @@ module _ {m : Machine} {s : Settings} {turns events₀ events : List ℕ} {x : m
 
     -- the turn is made: `tell` may be called, and the run ends before it or goes on after it
     pub record Made {x' : m.State} {c' : Course} {d : Told} (t : Turned m s x c w x' c' d) (far : ℕ) : Type 0 where
-      pub fits : Fits w32 (total + far)
       pub tell : (w < most_procs) × Room w a × (n + 2 ≤ length events)
       pub past : s.budget < total + far → PlayedIs m s turns events₀ events (record { stop = Budget; taken = k; events = n; total = total; sums = a })
       pub on : total + far ≤ s.budget → {b events' : List ℕ} {n' : ℕ} → Counted w d a b × Noted events n d.codes events' n' → length b ≡ length a
@@ -186,15 +185,8 @@ module _ {m : Machine} {s : Settings} {turns events₀ events : List ℕ} {x : m
               sums = o ∙ h.sums;
             }
 
-        paid : total ≤ s.budget
-        paid = rw h.has.tally at h.going.paid
-
-        far≤1 : far ≤ 1
-        far≤1 = rw (f, tells) (far≤ w (h.r.course.at w) (next m s h.r w))
-
         pub held_made : Made turned far
         held_made = record {
-          fits = omega (arith, paid, far≤1, h.accepted.budget);
           tell = (held_known.low, room_of, omega (arith, h.count, events_are, h.going.few, h.wide, h.long, read.0));
           past = past;
           on = on;
