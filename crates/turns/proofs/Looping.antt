@@ -10,13 +10,11 @@ use Rattle.rules.specs.Course.{Course, turn, outset}
 use Rattle.rules.specs.Tally.{Tally, blank}
 use Rattle.rules.specs.Play.{Run, first, next, taking, ended, whole}
 use Rattle.rules.specs.Calls.{over}
-use Rattle.rules.proofs.Accepted.{Accepted, Below, accepted}
+use Rattle.rules.proofs.Accepted.{Accepted, Below}
 use Rattle.rules.proofs.Views.{column, column_blank, over_next}
 use Rattle.rules.proofs.Counts.{Table≤}
 use Rattle.rules.proofs.Turned.{Told, told, Turned, same_tally, codes≤, done_told}
 use Rattle.rules.proofs.Going.{Going, As, going_first, going_all, going_past, going_next, as_next}
-use Rattle.settings.specs.View.{settings_of}
-use Rattle.settings.specs.declared.trial.Trial.{Trial}
 use Rattle.turns.specs.declared.played.Played.{Played}
 use Rattle.turns.specs.declared.played.Stop.{Stop}
 use Rattle.turns.specs.declared.played.Stop.TheVariants.{UsedUp, Budget}
@@ -37,9 +35,6 @@ pub record Held (m : Machine) (s : Settings) (turns events₀ events : List ℕ)
   pub row : events ≡ over es events₀
   pub long : length events ≡ length events₀
   pub sums : length a ≡ most_procs * numbers
-
-pub trial_accepted : (t : Trial) → Accepted (settings_of t.settings) t.schedule.now
-trial_accepted t = (accepted _ _ _ t.in_order).0
 
 -- nothing is counted yet
 abbrev pub no_sums : List ℕ

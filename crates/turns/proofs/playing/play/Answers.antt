@@ -3,7 +3,8 @@ use Rattle.std.proofs.Common.{refl, ap, arith}
 use Rattle.settings.specs.View.{settings_of}
 use Rattle.turns.specs.View.{course_of, told_of}
 use Rattle.turns.proofs.Turning.{Turns, turns_hold, turns_idle, turns_step}
-use Rattle.turns.proofs.Looping.{trial_accepted, held_first, held_known, held_all, held_made}
+use Rattle.settings.proofs.Trials.{trial_accepted}
+use Rattle.turns.proofs.Looping.{held_first, held_known, held_all, held_made}
 use Rattle.turns.proofs.playing.play.Given.{Over}
 use Rattle.turns.proofs.playing.play.Goals as goal
 use Rattle.turns.proofs.playing.play.Goals.{After-far_of, in-Hold, in-Idle, in-Step}
