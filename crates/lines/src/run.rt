@@ -10,7 +10,7 @@ pub struct Run<'a> {
     pub events: &'a [u16],
 }
 
-// The kind × 256 + the processor.
+// An entry of document 01's row of events: the kind × 256 + the processor.
 #[derive(Clone, Copy)]
 struct Event(u16);
 

@@ -1,7 +1,8 @@
 // The settings record.
 use crate::bounds::MOST_PROCS;
 
-// The types are wider than the bounds, so that every refusal can be given. algo: the number of a machine, or any other.
+// The types are wider than the bounds, and algo is a number and no Algo, so that every refusal can be given. rounds and hold are document 01's
+// entries for each processor.
 #[derive(Clone, Copy, Debug, PartialEq, Eq)]
 pub struct Settings {
     pub algo: u16,

@@ -19,6 +19,7 @@ pub fn play<M: Machine>(trial: Trial<'_>, events: &mut [u16]) -> Played
     let mut total: u32 = 0;
     let mut n: usize = 0;
     let mut k: usize = 0;
+    // As document 01 has it, the loop breaks with why it stops and the turns taken.
     let (stop, taken) = loop {
         let Some(&w) = trial.schedule.get(k) else {
             break (Stop::UsedUp, k);

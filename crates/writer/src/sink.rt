@@ -42,7 +42,7 @@ pub(crate) trait Sink {
     }
 }
 
-// Its depth is the number of digits.
+// Digit by digit, as the rules have a number. Its depth is the number of digits.
 #[tactic(auto, using(laws::proofs::Decimal::decimal_one, laws::proofs::Decimal::decimal_long))]
 fn put_decimal<S: Sink>(sink: &mut S, n: usize)
     requires { length (decimal n) < S.room sink.old }
