@@ -7,6 +7,7 @@ use crate::counts::{far_of, tell};
 use crate::course::Due;
 use crate::machine::{Machine, State};
 use crate::played::{Played, Stop};
+use crate::processor::Processor;
 use crate::step::Step;
 use settings::Trial;
 
@@ -20,12 +21,12 @@ pub fn play<M: Machine>(trial: Trial<'_>, events: &mut [u16]) -> Played
     let mut n: usize = 0;
     let mut k: usize = 0;
     let (stop, taken) = loop {
-        let Some(&w) = trial.schedule.get(k) else {
+        let Some(&number) = trial.schedule.get(k) else {
             break (Stop::UsedUp, k);
         };
-        let i = w as usize;
+        let w = Processor { number };
         // Each arm stores the next state by itself: in a function of its own, or as the value of the match, a turn costs up to 70 percent more.
-        match state.course.due(i, trial.settings.rounds[i]) {
+        match state.course.due(w, trial.settings.rounds[w.index()]) {
             Due::Hold => state = state.holds(w),
             Due::Idle => state = state.idles(w),
             Due::Step(at) => {
@@ -33,7 +34,7 @@ pub fn play<M: Machine>(trial: Trial<'_>, events: &mut [u16]) -> Played
                     course: state.course,
                     w,
                     at,
-                    hold: trial.settings.hold[i] as u8,
+                    hold: trial.settings.hold[w.index()] as u8,
                 };
                 state = state.memory.step(step, &trial.settings);
             }
