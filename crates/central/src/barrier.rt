@@ -77,24 +77,25 @@ impl Machine for Central {
 
     fn step(self, step: Step, s: &Settings) -> State<Central> {
         let w = step.w;
+        let home = Processor { number: s.home };
         // Every arm returns: the state is then copied nowhere.
         match step.at {
             1 => {
                 let next = if self.count == 1 { 2 } else { 4 };
-                return step.to(self.counts(w), s.home, Says::One(Kind::Arrive), next);
+                return step.to(self.counts(w), home, Says::One(Kind::Arrive), next);
             }
             2 => {
-                return step.to(self.resets(s.procs), s.home, Says::Nothing, 3);
+                return step.to(self.resets(s.procs), home, Says::Nothing, 3);
             }
             3 => {
-                return step.over(self.opens(w), s.home, Says::One(Kind::Leave));
+                return step.over(self.opens(w), home, Says::One(Kind::Leave));
             }
             _ => {
                 let local = self.local;
                 if self.sense == local[w.index()] {
-                    return step.over(self, s.home, Says::One(Kind::Leave));
+                    return step.over(self, home, Says::One(Kind::Leave));
                 }
-                return step.stay(self, s.home);
+                return step.stay(self, home);
             }
         }
     }

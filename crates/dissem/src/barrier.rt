@@ -126,15 +126,15 @@ impl Machine for Dissem {
         if at == 2 {
             let flags = self.flags;
             if bit(flags[i], variable(o)) != sense(o) {
-                return step.stay(self, w.number);
+                return step.stay(self, w);
             }
             if round(o) + 1 == self.levels {
-                return step.over(self.leaves(w), w.number, Says::One(Kind::Leave));
+                return step.over(self.leaves(w), w, Says::One(Kind::Leave));
             }
-            return step.to(self.goes_on(w), w.number, Says::Nothing, 3);
+            return step.to(self.goes_on(w), w, Says::Nothing, 3);
         }
         if s.procs == 1 {
-            return step.over(self, w.number, Says::Two(Kind::Arrive, Kind::Leave));
+            return step.over(self, w, Says::Two(Kind::Arrive, Kind::Leave));
         }
         let j = partner(w, round(o), s.procs);
         let says = if at == 1 {
@@ -142,6 +142,6 @@ impl Machine for Dissem {
         } else {
             Says::Nothing
         };
-        return step.to(self.tells(w, j), j.number, says, 2);
+        return step.to(self.tells(w, j), j, says, 2);
     }
 }

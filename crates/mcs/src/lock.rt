@@ -81,16 +81,17 @@ impl Machine for Mcs {
 
     fn step(self, step: Step, s: &Settings) -> State<Mcs> {
         let w = step.w;
+        let home = Processor { number: s.home };
         // Every arm returns: the state is then copied nowhere.
         match step.at {
             1 => {
-                return step.to(self.with_next(w, 0), w.number, Says::Nothing, 2);
+                return step.to(self.with_next(w, 0), w, Says::Nothing, 2);
             }
             2 => {
                 if self.tail == 0 {
                     return step.to(
                         self.with_tail(w.number + 1),
-                        s.home,
+                        home,
                         Says::Two(Kind::Join, Kind::Grant),
                         7,
                     );
@@ -98,57 +99,52 @@ impl Machine for Mcs {
                 return step.to(
                     self.with_pred(w, (self.tail - 1) as u8)
                         .with_tail(w.number + 1),
-                    s.home,
+                    home,
                     Says::One(Kind::Join),
                     3,
                 );
             }
             3 => {
-                return step.to(self.with_locked(w, 1), w.number, Says::Nothing, 4);
+                return step.to(self.with_locked(w, 1), w, Says::Nothing, 4);
             }
             4 => {
                 let pred = self.pred;
                 let p = Processor {
                     number: pred[w.index()] as u16,
                 };
-                return step.to(
-                    self.with_next(p, (w.number + 1) as u8),
-                    p.number,
-                    Says::Nothing,
-                    5,
-                );
+                return step.to(self.with_next(p, (w.number + 1) as u8), p, Says::Nothing, 5);
             }
             5 => {
                 let locked = self.locked;
                 if locked[w.index()] == 0 {
-                    return step.to(self, w.number, Says::One(Kind::Grant), 7);
+                    return step.to(self, w, Says::One(Kind::Grant), 7);
                 }
-                return step.stay(self, w.number);
+                return step.stay(self, w);
             }
             // Figure 5 reads next in two places. Nil leads on to the compare-and-swap at 7, and is a spin at 9.
             7 | 9 => {
                 let next = self.next;
                 let n = next[w.index()];
                 if n != 0 {
-                    return step.to(self.with_succ(w, n - 1), w.number, Says::Nothing, 10);
+                    return step.to(self.with_succ(w, n - 1), w, Says::Nothing, 10);
                 }
                 if step.at == 7 {
-                    return step.to(self, w.number, Says::Nothing, 8);
+                    return step.to(self, w, Says::Nothing, 8);
                 }
-                return step.stay(self, w.number);
+                return step.stay(self, w);
             }
             8 => {
                 if self.tail == w.number + 1 {
-                    return step.over(self.with_tail(0), s.home, Says::One(Kind::Release));
+                    return step.over(self.with_tail(0), home, Says::One(Kind::Release));
                 }
-                return step.to(self, s.home, Says::Nothing, 9);
+                return step.to(self, home, Says::Nothing, 9);
             }
             _ => {
                 let succ = self.succ;
                 let q = Processor {
                     number: succ[w.index()] as u16,
                 };
-                return step.over(self.with_locked(q, 0), q.number, Says::One(Kind::Release));
+                return step.over(self.with_locked(q, 0), q, Says::One(Kind::Release));
             }
         }
     }

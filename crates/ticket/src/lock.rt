@@ -72,24 +72,25 @@ impl Machine for Ticket {
 
     fn step(self, step: Step, s: &Settings) -> State<Ticket> {
         let w = step.w;
+        let home = Processor { number: s.home };
         // Every arm returns: the state is then copied nowhere. Step 2, where processors wait, stands behind 3: so the compiler leaves out
         // the copies of what a spin hands on.
         match step.at {
             1 => {
-                return step.to(self.asks(w), s.home, Says::One(Kind::Join), 2);
+                return step.to(self.asks(w), home, Says::One(Kind::Join), 2);
             }
             3 => {
-                return step.to(self.finds(w), s.home, Says::Nothing, 4);
+                return step.to(self.finds(w), home, Says::Nothing, 4);
             }
             2 => {
                 let mine = self.mine;
                 if self.release == mine[w.index()] {
-                    return step.to(self, s.home, Says::One(Kind::Grant), 3);
+                    return step.to(self, home, Says::One(Kind::Grant), 3);
                 }
-                return step.stay(self, s.home);
+                return step.stay(self, home);
             }
             _ => {
-                return step.over(self.frees(w), s.home, Says::One(Kind::Release));
+                return step.over(self.frees(w), home, Says::One(Kind::Release));
             }
         }
     }

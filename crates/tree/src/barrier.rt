@@ -137,11 +137,11 @@ impl Tree {
     }
 
     // How a step ends: the passage goes on at the next step, or there is none and it is over.
-    fn ends(self, step: Step, next: Option<u8>, owner: u16) -> State<Tree>
+    fn ends(self, step: Step, next: Option<u8>, owner: Processor) -> State<Tree>
         requires { IfSome next (λ k. k ≤ 10) }
         ensures memory { memory_of result.memory ≡ memory_next next (memory_of self) step.w.number }
         ensures course { course_of result.course ≡ goes_on (course_of step.course) step.w.number (says_next next (eqb step.at 1)) (to_next next) step.hold }
-        ensures tells { told_of step.w.number result.made ≡ told_so step.w.number step.at owner (says_next next (eqb step.at 1)) (to_next next) }
+        ensures tells { told_of step.w.number result.made ≡ told_so step.w.number step.at owner.number (says_next next (eqb step.at 1)) (to_next next) }
     {
         let first = step.at == 1;
         if let Some(at) = next {
@@ -171,51 +171,42 @@ impl Machine for Tree {
         let first = at == 1;
         let k = doing(at, w, s.procs);
         match k {
-            SETS => self.sets(w).ends(step, after_sets(w, s.procs), w.number),
+            SETS => self.sets(w).ends(step, after_sets(w, s.procs), w),
             TELLS => {
                 let parent = Processor {
                     number: (w.number - 1) / 4,
                 };
                 step.to(
                     self.clears(parent, ((w.number - 1) % 4) as u8),
-                    parent.number,
+                    parent,
                     Says::Nothing,
                     WAITS,
                 )
             }
             WAITS => {
                 if bit(word, WAKE) != bit(word, SENSE) {
-                    return step.stay(self, w.number);
+                    return step.stay(self, w);
                 }
-                self.ends(
-                    step,
-                    waking(2 * w.number + 1, WAKES_LEFT, s.procs),
-                    w.number,
-                )
+                self.ends(step, waking(2 * w.number + 1, WAKES_LEFT, s.procs), w)
             }
             WAKES_LEFT => {
                 let c = Processor {
                     number: 2 * w.number + 1,
                 };
                 self.wakes(w, c)
-                    .ends(step, waking(c.number + 1, WAKES_RIGHT, s.procs), c.number)
+                    .ends(step, waking(c.number + 1, WAKES_RIGHT, s.procs), c)
             }
             WAKES_RIGHT => {
                 let c = Processor {
                     number: 2 * w.number + 2,
                 };
-                self.wakes(w, c).ends(step, None, c.number)
+                self.wakes(w, c).ends(step, None, c)
             }
             _ => {
                 if bit(word, k) == 0 {
-                    return step.again(self, w.number, arrival(first), k);
+                    return step.again(self, w, arrival(first), k);
                 }
-                step.to(
-                    self,
-                    w.number,
-                    arrival(first),
-                    reading(w, k as u16 - 1, s.procs),
-                )
+                step.to(self, w, arrival(first), reading(w, k as u16 - 1, s.procs))
             }
         }
     }

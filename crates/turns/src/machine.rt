@@ -59,7 +59,7 @@ impl<M: Machine> State<M> {
         State {
             memory: M::start(s),
             course: Course::start(),
-            made: rests(0, Went::On),
+            made: rests(Processor { number: 0 }, Went::On),
         }
     }
 
@@ -73,7 +73,7 @@ impl<M: Machine> State<M> {
         State {
             memory: self.memory,
             course: self.course.held(w),
-            made: rests(w.number, Went::On),
+            made: rests(w, Went::On),
         }
     }
 
@@ -86,13 +86,13 @@ impl<M: Machine> State<M> {
         State {
             memory: self.memory,
             course: self.course,
-            made: rests(w.number, Went::Idled),
+            made: rests(w, Went::Idled),
         }
     }
 }
 
 // What is told of a turn of processor w without an access.
-fn rests(w: u16, went: Went) -> Made
+fn rests(w: Processor, went: Went) -> Made
     ensures { result ≡ record { owner = w; says = Nothing; began = false; went = went } }
 {
     Made {
@@ -112,7 +112,7 @@ impl Step {
         if says.holds() { self.hold } else { 0 }
     }
 
-    fn made(self, owner: u16, says: Says, went: Went) -> Made
+    fn made(self, owner: Processor, says: Says, went: Went) -> Made
         ensures { result ≡ record { owner = owner; says = says; began = eqb self.at 1; went = went } }
     {
         Made {
@@ -124,10 +124,10 @@ impl Step {
     }
 
     // It spins, and has to be made again.
-    pub fn stay<M>(self, memory: M, owner: u16) -> State<M>
+    pub fn stay<M>(self, memory: M, owner: Processor) -> State<M>
         ensures memory { result.memory ≡ memory }
         ensures course { course_of result.course ≡ goes_on (course_of self.course) self.w.number nothing stay self.hold }
-        ensures tells { told_of self.w.number result.made ≡ told_so self.w.number self.at owner nothing stay }
+        ensures tells { told_of self.w.number result.made ≡ told_so self.w.number self.at owner.number nothing stay }
         ensures owner { result.made.owner ≡ owner }
     {
         State {
@@ -138,11 +138,11 @@ impl Step {
     }
 
     // It spins, and the processor goes on at this step.
-    pub fn again<M>(self, memory: M, owner: u16, says: Says, at: u8) -> State<M>
+    pub fn again<M>(self, memory: M, owner: Processor, says: Says, at: u8) -> State<M>
         requires { at < holds }
         ensures memory { result.memory ≡ memory }
         ensures course { course_of result.course ≡ goes_on (course_of self.course) self.w.number (says_of says) (again at) self.hold }
-        ensures tells { told_of self.w.number result.made ≡ told_so self.w.number self.at owner (says_of says) (again at) }
+        ensures tells { told_of self.w.number result.made ≡ told_so self.w.number self.at owner.number (says_of says) (again at) }
         ensures owner { result.made.owner ≡ owner }
     {
         State {
@@ -153,11 +153,11 @@ impl Step {
     }
 
     // The processor goes on to this step.
-    pub fn to<M>(self, memory: M, owner: u16, says: Says, at: u8) -> State<M>
+    pub fn to<M>(self, memory: M, owner: Processor, says: Says, at: u8) -> State<M>
         requires { at < holds }
         ensures memory { result.memory ≡ memory }
         ensures course { course_of result.course ≡ goes_on (course_of self.course) self.w.number (says_of says) (to at) self.hold }
-        ensures tells { told_of self.w.number result.made ≡ told_so self.w.number self.at owner (says_of says) (to at) }
+        ensures tells { told_of self.w.number result.made ≡ told_so self.w.number self.at owner.number (says_of says) (to at) }
         ensures owner { result.made.owner ≡ owner }
     {
         State {
@@ -168,10 +168,10 @@ impl Step {
     }
 
     // The passage is done.
-    pub fn over<M>(self, memory: M, owner: u16, says: Says) -> State<M>
+    pub fn over<M>(self, memory: M, owner: Processor, says: Says) -> State<M>
         ensures memory { result.memory ≡ memory }
         ensures course { course_of result.course ≡ goes_on (course_of self.course) self.w.number (says_of says) over self.hold }
-        ensures tells { told_of self.w.number result.made ≡ told_so self.w.number self.at owner (says_of says) over }
+        ensures tells { told_of self.w.number result.made ≡ told_so self.w.number self.at owner.number (says_of says) over }
         ensures owner { result.made.owner ≡ owner }
     {
         State {

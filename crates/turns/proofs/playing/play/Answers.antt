@@ -19,28 +19,19 @@ loop-number-init g c = (
   c.start-state.ensures.sound,
 )
 
-pub bounds-trial-i : goal.bounds-trial-i
-bounds-trial-i g c = (held_known c.loop-number.invariant.0 c.in-Some.ensures.lookup.3).low
-
-pub due-requires : goal.due-requires
-due-requires g c = (held_known c.loop-number.invariant.0 c.in-Some.ensures.lookup.3).low
-
-pub holds-state-requires-clause-below : goal.holds-state-requires-clause-below
-holds-state-requires-clause-below g c = (held_known c.loop-number.invariant.0 c.in-Some.ensures.lookup.3).low
-
-pub bounds-trial-i-in-Step : goal.bounds-trial-i-in-Step
-bounds-trial-i-in-Step g c = (held_known c.loop-number.invariant.0 c.in-Some.ensures.lookup.3).low
+pub invariant_of-w : goal.invariant_of-w
+invariant_of-w g c = (held_known c.loop-number.invariant.0 c.in-Some.ensures.lookup.3).low
 
 pub invariant_of-step : goal.invariant_of-step
 invariant_of-step g c =
     let h = held_known c.loop-number.invariant.0 c.in-Some.ensures.lookup.3 in
     let d = rw c.in-Step.is at c.due.ensures in
-    record { here = d.1; none_left = d.0; few = h.done; below = h.low }
+    record { here = d.1; none_left = d.0; few = h.done }
 
 pub step-state-requires-clause-asked : goal.step-state-requires-clause-asked
 step-state-requires-clause-asked g c =
     let h = held_known c.loop-number.invariant.0 c.in-Some.ensures.lookup.3 in
-    record { below = h.below; procs = h.procs; hold = refl }
+    record { below = h.below; home = h.home; procs = h.procs; hold = refl }
 
 -- the turn that is made, and that what steps keep holds after it
 turns : (g : Over) (c : After-far_of g)
