@@ -28,8 +28,7 @@ impl Central {
         ensures { memory_of result ≡ record { count = self.count - 1; sense = self.sense; local = upd (memory_of self).local w.number (1 - (memory_of self).local w.number) } }
     {
         let mut local = self.local;
-        let i = w.index();
-        local[i] = toggled(local[i]);
+        local[w.number] = toggled(local[w.number]);
         Central {
             local,
             count: self.count.saturating_sub(1),
@@ -54,7 +53,7 @@ impl Central {
     {
         let local = self.local;
         Central {
-            sense: local[w.index()],
+            sense: local[w.number],
             ..self
         }
     }
@@ -77,7 +76,9 @@ impl Machine for Central {
 
     fn step(self, step: Step, s: &Settings) -> State<Central> {
         let w = step.w;
-        let home = Processor { number: s.home };
+        let home = Processor {
+            number: s.home as usize,
+        };
         // Every arm returns: the state is then copied nowhere.
         match step.at {
             1 => {
@@ -92,7 +93,7 @@ impl Machine for Central {
             }
             _ => {
                 let local = self.local;
-                if self.sense == local[w.index()] {
+                if self.sense == local[w.number] {
                     return step.over(self, home, Says::One(Kind::Leave));
                 }
                 return step.stay(self, home);

@@ -52,13 +52,13 @@ fn left(own: u8) -> u8
 }
 
 // The processor that w tells in round k. In each of the R rounds 2^k is below procs, so the sum is below twice procs.
-fn partner(w: Processor, k: u8, procs: u16) -> Processor
+fn partner(w: Processor, k: u8, procs: usize) -> Processor
     requires below { w.number < procs }
     requires procs { procs ≤ 64 }
     requires round { k < doublings procs }
     ensures { result.number ≡ (w.number + 2 ^ k) % procs }
 {
-    let j = w.number + (1u16 << k);
+    let j = w.number + (1usize << k);
     Processor {
         number: if procs <= j { j - procs } else { j },
     }
@@ -72,10 +72,9 @@ impl Dissem {
         ensures memory { memory_of result ≡ told w.number j.number (memory_of self) }
     {
         let own = self.own;
-        let o = own[w.index()];
+        let o = own[w.number];
         let mut flags = self.flags;
-        let i = j.index();
-        flags[i] = with_bit(flags[i], variable(o), sense(o));
+        flags[j.number] = with_bit(flags[j.number], variable(o), sense(o));
         Dissem { flags, ..self }
     }
 
@@ -86,7 +85,7 @@ impl Dissem {
         ensures memory { memory_of result ≡ (waits true false (memory_of self) w.number).memory }
     {
         let mut own = self.own;
-        own[w.index()] += 4;
+        own[w.number] += 4;
         Dissem { own, ..self }
     }
 
@@ -96,8 +95,7 @@ impl Dissem {
         ensures memory { memory_of result ≡ (waits true true (memory_of self) w.number).memory }
     {
         let mut own = self.own;
-        let i = w.index();
-        own[i] = left(own[i]);
+        own[w.number] = left(own[w.number]);
         Dissem { own, ..self }
     }
 }
@@ -121,11 +119,10 @@ impl Machine for Dissem {
         let w = step.w;
         let at = step.at;
         let own = self.own;
-        let i = w.index();
-        let o = own[i];
+        let o = own[w.number];
         if at == 2 {
             let flags = self.flags;
-            if bit(flags[i], variable(o)) != sense(o) {
+            if bit(flags[w.number], variable(o)) != sense(o) {
                 return step.stay(self, w);
             }
             if round(o) + 1 == self.levels {
@@ -136,7 +133,7 @@ impl Machine for Dissem {
         if s.procs == 1 {
             return step.over(self, w, Says::Two(Kind::Arrive, Kind::Leave));
         }
-        let j = partner(w, round(o), s.procs);
+        let j = partner(w, round(o), s.procs as usize);
         let says = if at == 1 {
             Says::One(Kind::Arrive)
         } else {

@@ -30,7 +30,7 @@ impl Mcs {
         ensures { memory_of result ≡ set_next q.number v (memory_of self) }
     {
         let mut next = self.next;
-        next[q.index()] = v;
+        next[q.number] = v;
         Mcs { next, ..self }
     }
 
@@ -39,7 +39,7 @@ impl Mcs {
         ensures { memory_of result ≡ set_locked q.number v (memory_of self) }
     {
         let mut locked = self.locked;
-        locked[q.index()] = v;
+        locked[q.number] = v;
         Mcs { locked, ..self }
     }
 
@@ -48,7 +48,7 @@ impl Mcs {
         ensures { memory_of result ≡ set_pred q.number v (memory_of self) }
     {
         let mut pred = self.pred;
-        pred[q.index()] = v;
+        pred[q.number] = v;
         Mcs { pred, ..self }
     }
 
@@ -57,7 +57,7 @@ impl Mcs {
         ensures { memory_of result ≡ set_succ q.number v (memory_of self) }
     {
         let mut succ = self.succ;
-        succ[q.index()] = v;
+        succ[q.number] = v;
         Mcs { succ, ..self }
     }
 }
@@ -81,7 +81,9 @@ impl Machine for Mcs {
 
     fn step(self, step: Step, s: &Settings) -> State<Mcs> {
         let w = step.w;
-        let home = Processor { number: s.home };
+        let home = Processor {
+            number: s.home as usize,
+        };
         // Every arm returns: the state is then copied nowhere.
         match step.at {
             1 => {
@@ -90,7 +92,7 @@ impl Machine for Mcs {
             2 => {
                 if self.tail == 0 {
                     return step.to(
-                        self.with_tail(w.number + 1),
+                        self.with_tail(w.number as u16 + 1),
                         home,
                         Says::Two(Kind::Join, Kind::Grant),
                         7,
@@ -98,7 +100,7 @@ impl Machine for Mcs {
                 }
                 return step.to(
                     self.with_pred(w, (self.tail - 1) as u8)
-                        .with_tail(w.number + 1),
+                        .with_tail(w.number as u16 + 1),
                     home,
                     Says::One(Kind::Join),
                     3,
@@ -110,13 +112,13 @@ impl Machine for Mcs {
             4 => {
                 let pred = self.pred;
                 let p = Processor {
-                    number: pred[w.index()] as u16,
+                    number: pred[w.number] as usize,
                 };
                 return step.to(self.with_next(p, (w.number + 1) as u8), p, Says::Nothing, 5);
             }
             5 => {
                 let locked = self.locked;
-                if locked[w.index()] == 0 {
+                if locked[w.number] == 0 {
                     return step.to(self, w, Says::One(Kind::Grant), 7);
                 }
                 return step.stay(self, w);
@@ -124,7 +126,7 @@ impl Machine for Mcs {
             // Figure 5 reads next in two places. Nil leads on to the compare-and-swap at 7, and is a spin at 9.
             7 | 9 => {
                 let next = self.next;
-                let n = next[w.index()];
+                let n = next[w.number];
                 if n != 0 {
                     return step.to(self.with_succ(w, n - 1), w, Says::Nothing, 10);
                 }
@@ -134,7 +136,7 @@ impl Machine for Mcs {
                 return step.stay(self, w);
             }
             8 => {
-                if self.tail == w.number + 1 {
+                if self.tail == w.number as u16 + 1 {
                     return step.over(self.with_tail(0), home, Says::One(Kind::Release));
                 }
                 return step.to(self, home, Says::Nothing, 9);
@@ -142,7 +144,7 @@ impl Machine for Mcs {
             _ => {
                 let succ = self.succ;
                 let q = Processor {
-                    number: succ[w.index()] as u16,
+                    number: succ[w.number] as usize,
                 };
                 return step.over(self.with_locked(q, 0), q, Says::One(Kind::Release));
             }

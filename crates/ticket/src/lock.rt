@@ -22,7 +22,7 @@ impl Ticket {
         ensures { memory_of result ≡ set_mine w.number self.request (set_request (up self.request) (memory_of self)) }
     {
         let mut mine = self.mine;
-        mine[w.index()] = self.request;
+        mine[w.number] = self.request;
         Ticket {
             mine,
             request: self.request.wrapping_add(1),
@@ -36,7 +36,7 @@ impl Ticket {
         ensures { memory_of result ≡ set_found w.number self.release (memory_of self) }
     {
         let mut found = self.found;
-        found[w.index()] = self.release;
+        found[w.number] = self.release;
         Ticket { found, ..self }
     }
 
@@ -47,7 +47,7 @@ impl Ticket {
     {
         let found = self.found;
         Ticket {
-            release: found[w.index()].wrapping_add(1),
+            release: found[w.number].wrapping_add(1),
             ..self
         }
     }
@@ -72,7 +72,9 @@ impl Machine for Ticket {
 
     fn step(self, step: Step, s: &Settings) -> State<Ticket> {
         let w = step.w;
-        let home = Processor { number: s.home };
+        let home = Processor {
+            number: s.home as usize,
+        };
         // Every arm returns: the state is then copied nowhere. Step 2, where processors wait, stands behind 3: so the compiler leaves out
         // the copies of what a spin hands on.
         match step.at {
@@ -84,7 +86,7 @@ impl Machine for Ticket {
             }
             2 => {
                 let mine = self.mine;
-                if self.release == mine[w.index()] {
+                if self.release == mine[w.number] {
                     return step.to(self, home, Says::One(Kind::Grant), 3);
                 }
                 return step.stay(self, home);

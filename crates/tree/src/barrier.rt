@@ -35,7 +35,7 @@ pub struct Tree {
 }
 
 // The step that reads the flag in this slot of w, or the one after all flags where that child is absent.
-fn reading(w: Processor, slot: u16, procs: u16) -> u8
+fn reading(w: Processor, slot: usize, procs: usize) -> u8
     requires { slot < 5 }
     ensures { result ≡ pick (ltb (child w.number slot) procs) (2 + slot) 6 }
 {
@@ -46,7 +46,7 @@ fn reading(w: Processor, slot: u16, procs: u16) -> u8
 }
 
 // What is done at this step: at step 1 the first flag is read, if there is one.
-fn doing(step: u8, w: Processor, procs: u16) -> u8
+fn doing(step: u8, w: Processor, procs: usize) -> u8
     ensures { result ≡ pick (eqb step 1) (pick (ltb (child w.number 0) procs) 2 6) step }
 {
     if step == 1 {
@@ -56,14 +56,14 @@ fn doing(step: u8, w: Processor, procs: u16) -> u8
 }
 
 // The step at which child c is woken, or none where it is absent: then the passage is over.
-fn waking(c: u16, step: u8, procs: u16) -> Option<u8>
+fn waking(c: usize, step: u8, procs: usize) -> Option<u8>
     ensures { result ≡ pick (ltb c procs) (Some step) None }
 {
     (c < procs).then_some(step)
 }
 
 // The step after the flags are set up. Processor 0 has nobody to tell.
-fn after_sets(w: Processor, procs: u16) -> Option<u8>
+fn after_sets(w: Processor, procs: usize) -> Option<u8>
     ensures { result ≡ pick (eqb w.number 0) (pick (ltb 1 procs) (Some 9) None) (Some 7) }
 {
     if w.number != 0 {
@@ -100,8 +100,7 @@ impl Tree {
         ensures { memory_of result ≡ record { flag = upd (memory_of self).flag w.number (each 1); wake = (memory_of self).wake; sense = (memory_of self).sense } }
     {
         let mut words = self.words;
-        let i = w.index();
-        words[i] = words[i] % 4;
+        words[w.number] %= 4;
         Tree { words }
     }
 
@@ -111,8 +110,7 @@ impl Tree {
         ensures { memory_of result ≡ record { flag = upd (memory_of self).flag w.number (upd ((memory_of self).flag w.number) slot 0); wake = (memory_of self).wake; sense = (memory_of self).sense } }
     {
         let mut words = self.words;
-        let i = w.index();
-        words[i] = with_bit(words[i], FLAGS + slot, 1);
+        words[w.number] = with_bit(words[w.number], FLAGS + slot, 1);
         Tree { words }
     }
 
@@ -121,8 +119,7 @@ impl Tree {
         ensures { memory_of result ≡ record { flag = (memory_of self).flag; wake = upd (memory_of self).wake c.number ((memory_of self).sense w.number); sense = (memory_of self).sense } }
     {
         let mut words = self.words;
-        let i = c.index();
-        words[i] = with_bit(words[i], WAKE, bit(words[w.index()], SENSE));
+        words[c.number] = with_bit(words[c.number], WAKE, bit(words[w.number], SENSE));
         Tree { words }
     }
 
@@ -131,8 +128,7 @@ impl Tree {
         ensures { memory_of result ≡ toggled (memory_of self) w.number }
     {
         let mut words = self.words;
-        let i = w.index();
-        words[i] = with_bit(words[i], SENSE, 1 - bit(words[i], SENSE));
+        words[w.number] = with_bit(words[w.number], SENSE, 1 - bit(words[w.number], SENSE));
         Tree { words }
     }
 
@@ -167,11 +163,12 @@ impl Machine for Tree {
         let w = step.w;
         let at = step.at;
         let words = self.words;
-        let word = words[w.index()];
+        let word = words[w.number];
         let first = at == 1;
-        let k = doing(at, w, s.procs);
+        let procs = s.procs as usize;
+        let k = doing(at, w, procs);
         match k {
-            SETS => self.sets(w).ends(step, after_sets(w, s.procs), w),
+            SETS => self.sets(w).ends(step, after_sets(w, procs), w),
             TELLS => {
                 let parent = Processor {
                     number: (w.number - 1) / 4,
@@ -187,14 +184,14 @@ impl Machine for Tree {
                 if bit(word, WAKE) != bit(word, SENSE) {
                     return step.stay(self, w);
                 }
-                self.ends(step, waking(2 * w.number + 1, WAKES_LEFT, s.procs), w)
+                self.ends(step, waking(2 * w.number + 1, WAKES_LEFT, procs), w)
             }
             WAKES_LEFT => {
                 let c = Processor {
                     number: 2 * w.number + 1,
                 };
                 self.wakes(w, c)
-                    .ends(step, waking(c.number + 1, WAKES_RIGHT, s.procs), c)
+                    .ends(step, waking(c.number + 1, WAKES_RIGHT, procs), c)
             }
             WAKES_RIGHT => {
                 let c = Processor {
@@ -206,7 +203,7 @@ impl Machine for Tree {
                 if bit(word, k) == 0 {
                     return step.again(self, w, arrival(first), k);
                 }
-                step.to(self, w, arrival(first), reading(w, k as u16 - 1, s.procs))
+                step.to(self, w, arrival(first), reading(w, k as usize - 1, procs))
             }
         }
     }

@@ -50,7 +50,7 @@ impl Course {
     pub(crate) fn due(self, w: Processor, rounds: u16) -> Due
         ensures { Dues (course_of self) w.number rounds result }
     {
-        let i = w.index();
+        let i = w.number;
         let at = self.at;
         let step = at[i];
         if step >= HOLDS {
@@ -70,7 +70,7 @@ impl Course {
         requires { 0 < (course_of self).left w.number }
         ensures { course_of result ≡ held (course_of self) w.number }
     {
-        let i = w.index();
+        let i = w.number;
         let mut at = self.at;
         let mut left = self.left;
         let more = left[i];
@@ -84,7 +84,7 @@ impl Course {
         requires { step < holds }
         ensures { course_of result ≡ gone_to (course_of self) w.number step hold }
     {
-        let i = w.index();
+        let i = w.number;
         let mut at = self.at;
         let mut left = self.left;
         at[i] = after_hold(step, hold);
@@ -98,7 +98,7 @@ impl Course {
         ensures { course_of result ≡ ended (course_of self) w.number }
     {
         let mut done = self.done;
-        done[w.index()] += 1;
+        done[w.number] += 1;
         Course { done, ..self }
     }
 }

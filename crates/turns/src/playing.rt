@@ -21,12 +21,14 @@ pub fn play<M: Machine>(trial: Trial<'_>, events: &mut [u16]) -> Played
     let mut n: usize = 0;
     let mut k: usize = 0;
     let (stop, taken) = loop {
-        let Some(&number) = trial.schedule.get(k) else {
+        let Some(&turn) = trial.schedule.get(k) else {
             break (Stop::UsedUp, k);
         };
-        let w = Processor { number };
+        let w = Processor {
+            number: turn as usize,
+        };
         // Each arm stores the next state by itself: in a function of its own, or as the value of the match, a turn costs up to 70 percent more.
-        match state.course.due(w, trial.settings.rounds[w.index()]) {
+        match state.course.due(w, trial.settings.rounds[w.number]) {
             Due::Hold => state = state.holds(w),
             Due::Idle => state = state.idles(w),
             Due::Step(at) => {
@@ -34,7 +36,7 @@ pub fn play<M: Machine>(trial: Trial<'_>, events: &mut [u16]) -> Played
                     course: state.course,
                     w,
                     at,
-                    hold: trial.settings.hold[w.index()] as u8,
+                    hold: trial.settings.hold[w.number] as u8,
                 };
                 state = state.memory.step(step, &trial.settings);
             }

@@ -6,9 +6,9 @@ use Rattle.turns.proofs.course.Course.ends.Goals as goal
 
 pub overflow_add-done : goal.overflow_add-done
 unfolding view
-overflow_add-done c = rw c.index.ensures (search rules)
+overflow_add-done c = search rules
 
 pub returns : goal.returns
 returns c =
-    let r : Rows c.args.self c.index.result = search rules in
-    rw (← c.index.ensures) (same_course _ _ refl refl (view_put 0 r.done (rw (view_at 0 r.done))))
+    let r : Rows c.args.self c.args.w.number = search rules in
+    same_course _ _ refl refl (view_put 0 r.done (rw (view_at 0 r.done)))
