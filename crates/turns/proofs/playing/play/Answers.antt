@@ -19,6 +19,9 @@ loop-turn-init g c = (
   c.start-state.ensures.sound,
 )
 
+pub bounds-trial-w : goal.bounds-trial-w
+bounds-trial-w g c = (held_known c.loop-turn.invariant.0 c.in-Some.ensures.lookup.3).low
+
 pub invariant_of-w : goal.invariant_of-w
 invariant_of-w g c = record { below = (held_known c.loop-turn.invariant.0 c.in-Some.ensures.lookup.3).low }
 
