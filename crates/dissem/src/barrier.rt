@@ -59,9 +59,10 @@ fn partner(w: Processor, k: u8, procs: usize) -> Processor
     ensures { result.number ≡ (w.number + 2 ^ k) % procs }
 {
     let j = w.number + (1usize << k);
-    Processor {
-        number: if procs <= j { j - procs } else { j },
+    if procs <= j {
+        return Processor { number: j - procs };
     }
+    Processor { number: j }
 }
 
 impl Dissem {

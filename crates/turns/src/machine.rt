@@ -174,12 +174,10 @@ impl Step {
         ensures tells { told_of self.w.number result.made ≡ told_so self.w.number self.at owner.number (says_of says) over }
         ensures owner { result.made.owner ≡ owner }
     {
+        let w = self.w;
         State {
             memory,
-            course: self
-                .course
-                .ends(self.w)
-                .goes(self.w, 1, self.hold_after(says)),
+            course: self.course.ends(w).goes(w, 1, self.hold_after(says)),
             made: self.made(owner, says, Went::Over),
         }
     }

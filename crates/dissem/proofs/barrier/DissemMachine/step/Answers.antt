@@ -45,8 +45,8 @@ returns-then-round-self-clause-sound c =
     sound_at c.requires.sound c.over.ensures.memory c.leaves.ensures.levels c.args.step.w.number 1 0 (ap (λ (z : Course). z.at) c.over.ensures.course)
     (ap (λ z. z.round) c.leaves.ensures.memory) (λ e. refl) (λ n. absurd (n refl))
 
-pub goes_on-requires-clause-round : goal.goes_on-requires-clause-round
-goes_on-requires-clause-round c = round<6 c.requires.sound c.args.step.here c.requires.asked
+pub goes_on-requires : goal.goes_on-requires
+goes_on-requires c = round<6 c.requires.sound c.args.step.here c.requires.asked
 
 pub returns-then-at-eq2-clause-stepped : goal.returns-then-at-eq2-clause-stepped
 unfolding step remote
@@ -86,8 +86,8 @@ partner-j-requires-clause-round c =
     let p : Place c.args.self.own c.args.step.w.number = search rules in
     rw (c.round-2.ensures, ← view_at 1 p) (round<R c.requires.sound c.args.step.here c.requires.asked (search rules))
 
-pub tells-requires-clause-round : goal.tells-requires-clause-round
-tells-requires-clause-round c = round<6 c.requires.sound c.args.step.here c.requires.asked
+pub tells-requires : goal.tells-requires
+tells-requires c = round<6 c.requires.sound c.args.step.here c.requires.asked
 
 pub returns-clause-stepped : goal.returns-clause-stepped
 unfolding step remote
@@ -96,13 +96,13 @@ returns-clause-stepped c =
     let x = memory_of c.args.self in
     let i = c.args.step.w.number in
     let p : Place c.args.self.own c.args.step.w.number = search rules in
-    let j : c.partner-j.result ≡ partner s i (x.round i) = rw (view_at 1 p, ← c.round-2.ensures) c.partner-j.ensures.is in
+    let j : c.partner-j.result.number ≡ partner s i (x.round i) = rw (view_at 1 p, ← c.round-2.ensures) c.partner-j.ensures in
     let is : step s x c.args.step.at i ≡ tells (x.round i) (says_of c.if-at-eq1.says) s x i =
     elim c.if-at-eq1.branch [
       | then-at-eq1 w ↦ rw (w.if-at-eq1.true, ne_eqb _ _ c.if-s-eq1.false, w.says-is, round_first c.requires.sound c.args.step.here c.requires.asked w.if-at-eq1.true) refl
       | else-at-eq1 w ↦ rw (ne_eqb _ _ w.if-at-eq1.false, ne_eqb _ _ c.if-at-eq2.false, w.says-is) refl
     ] in
-    stepped (tells (x.round i) (says_of c.if-at-eq1.says) s x i) c.partner-j.result is
+    stepped (tells (x.round i) (says_of c.if-at-eq1.says) s x i) c.partner-j.result.number is
     (ap memory_of c.to-2.ensures.memory ∙ c.tells.ensures.memory ∙ told_is s x i (says_of c.if-at-eq1.says) j) (rw j refl) c.requires.asked.hold c.to-2.ensures.course c.to-2.ensures.tells
 
 pub returns-clause-sound : goal.returns-clause-sound
