@@ -1,11 +1,11 @@
 // The central barrier (figure 8).
-ghost use Rattle.std.specs.Prelude.{◌≡◌, ◌<◌, ◌-◌};
+ghost use Rattle.std.specs.Prelude.{◌≡◌, ◌-◌};
 ghost use Rattle.rules.specs.Memory.{upd};
 ghost use Rattle.rules.specs.Central.{machine};
 ghost use Rattle.central.specs.CentralView.{memory_of};
 
 use settings::Settings;
-use turns::{Kind, Machine, Says, State, Step};
+use turns::{Kind, Machine, Processor, Says, State, Step};
 
 // The count and the sense, and each processor's local sense. True is 1.
 #[derive(Clone, Copy)]
@@ -22,14 +22,13 @@ fn toggled(sense: u8) -> u8
 }
 
 impl Central {
-    // Processor i toggles its local sense and is counted.
+    // Processor w toggles its local sense and is counted.
     #[tactic(auto, using(rules::proofs::Views::view_set, rules::proofs::Views::view_at))]
-    fn counts(self, i: usize) -> Central
-        requires { i < 64 }
-        ensures { memory_of result ≡ record { count = self.count - 1; sense = self.sense; local = upd (memory_of self).local i (1 - (memory_of self).local i) } }
+    fn counts(self, w: Processor) -> Central
+        ensures { memory_of result ≡ record { count = self.count - 1; sense = self.sense; local = upd (memory_of self).local w.number (1 - (memory_of self).local w.number) } }
     {
         let mut local = self.local;
-        local[i] = toggled(local[i]);
+        local[w.number] = toggled(local[w.number]);
         Central {
             local,
             count: self.count.saturating_sub(1),
@@ -47,15 +46,14 @@ impl Central {
         }
     }
 
-    // The sense becomes processor i's local sense.
+    // The sense becomes processor w's local sense.
     #[tactic(auto, using(rules::proofs::Views::view_at))]
-    fn opens(self, i: usize) -> Central
-        requires { i < 64 }
-        ensures { memory_of result ≡ record { count = self.count; sense = (memory_of self).local i; local = (memory_of self).local } }
+    fn opens(self, w: Processor) -> Central
+        ensures { memory_of result ≡ record { count = self.count; sense = (memory_of self).local w.number; local = (memory_of self).local } }
     {
         let local = self.local;
         Central {
-            sense: local[i],
+            sense: local[w.number],
             ..self
         }
     }
@@ -77,25 +75,28 @@ impl Machine for Central {
     }
 
     fn step(self, step: Step, s: &Settings) -> State<Central> {
-        let i = step.w as usize;
+        let w = step.w;
+        let home = Processor {
+            number: s.home as usize,
+        };
         // Every arm returns: the state is then copied nowhere.
         match step.at {
             1 => {
                 let next = if self.count == 1 { 2 } else { 4 };
-                return step.to(self.counts(i), s.home, Says::One(Kind::Arrive), next);
+                return step.to(self.counts(w), home, Says::One(Kind::Arrive), next);
             }
             2 => {
-                return step.to(self.resets(s.procs), s.home, Says::Nothing, 3);
+                return step.to(self.resets(s.procs), home, Says::Nothing, 3);
             }
             3 => {
-                return step.over(self.opens(i), s.home, Says::One(Kind::Leave));
+                return step.over(self.opens(w), home, Says::One(Kind::Leave));
             }
             _ => {
                 let local = self.local;
-                if self.sense == local[i] {
-                    return step.over(self, s.home, Says::One(Kind::Leave));
+                if self.sense == local[w.number] {
+                    return step.over(self, home, Says::One(Kind::Leave));
                 }
-                return step.stay(self, s.home);
+                return step.stay(self, home);
             }
         }
     }

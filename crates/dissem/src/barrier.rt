@@ -6,7 +6,7 @@ ghost use Rattle.dissem.specs.DissemView.{sense_of, parity_of, round_of, memory_
 
 use crate::doublings::levels;
 use settings::Settings;
-use turns::{Kind, Machine, Says, State, Step, bit, with_bit};
+use turns::{Kind, Machine, Processor, Says, State, Step, bit, with_bit};
 
 // flags: of each processor its flags, variable v as bit v. levels: R. own: of each processor its round * 4 + parity * 2 + sense.
 // levels stands between the rows: the compiler then copies only the one that a step changes. For the same reason a row that is read has a
@@ -52,52 +52,51 @@ fn left(own: u8) -> u8
 }
 
 // The processor that w tells in round k. In each of the R rounds 2^k is below procs, so the sum is below twice procs.
-fn partner(w: u16, k: u8, procs: u16) -> u16
-    requires below { w < procs }
+fn partner(w: Processor, k: u8, procs: usize) -> Processor
+    requires below { w.number < procs }
     requires procs { procs ≤ 64 }
     requires round { k < doublings procs }
-    ensures is { result ≡ (w + 2 ^ k) % procs }
-    ensures below { result < procs }
+    ensures { result.number ≡ (w.number + 2 ^ k) % procs }
 {
-    let j = w + (1u16 << k);
-    if procs <= j { j - procs } else { j }
+    let j = w.number + (1usize << k);
+    if procs <= j {
+        return Processor { number: j - procs };
+    }
+    Processor { number: j }
 }
 
 impl Dissem {
-    // Processor i writes its sense into j's flag, at its own parity and round.
-    fn tells(self, i: usize, j: usize) -> Dissem
-        requires in_rows { (i < 64) × (j < 64) }
-        requires round { (memory_of self).round i < 6 }
+    // Processor w writes its sense into j's flag, at its own parity and round.
+    fn tells(self, w: Processor, j: Processor) -> Dissem
+        requires { (memory_of self).round w.number < 6 }
         ensures levels { result.levels ≡ self.levels }
-        ensures memory { memory_of result ≡ told i j (memory_of self) }
+        ensures memory { memory_of result ≡ told w.number j.number (memory_of self) }
     {
         let own = self.own;
-        let o = own[i];
+        let o = own[w.number];
         let mut flags = self.flags;
-        flags[j] = with_bit(flags[j], variable(o), sense(o));
+        flags[j.number] = with_bit(flags[j.number], variable(o), sense(o));
         Dissem { flags, ..self }
     }
 
-    // Processor i goes to the next round.
-    fn goes_on(self, i: usize) -> Dissem
-        requires in_rows { i < 64 }
-        requires round { (memory_of self).round i < 6 }
+    // Processor w goes to the next round.
+    fn goes_on(self, w: Processor) -> Dissem
+        requires { (memory_of self).round w.number < 6 }
         ensures levels { result.levels ≡ self.levels }
-        ensures memory { memory_of result ≡ (waits true false (memory_of self) i).memory }
+        ensures memory { memory_of result ≡ (waits true false (memory_of self) w.number).memory }
     {
         let mut own = self.own;
-        own[i] += 4;
+        own[w.number] += 4;
         Dissem { own, ..self }
     }
 
-    // Processor i ends its passage.
-    fn leaves(self, i: usize) -> Dissem
-        requires { i < 64 }
+    // Processor w ends its passage.
+    fn leaves(self, w: Processor) -> Dissem
         ensures levels { result.levels ≡ self.levels }
-        ensures memory { memory_of result ≡ (waits true true (memory_of self) i).memory }
+        ensures memory { memory_of result ≡ (waits true true (memory_of self) w.number).memory }
     {
         let mut own = self.own;
-        own[i] = left(own[i]);
+        own[w.number] = left(own[w.number]);
         Dissem { own, ..self }
     }
 }
@@ -120,28 +119,27 @@ impl Machine for Dissem {
     fn step(self, step: Step, s: &Settings) -> State<Dissem> {
         let w = step.w;
         let at = step.at;
-        let i = w as usize;
         let own = self.own;
-        let o = own[i];
+        let o = own[w.number];
         if at == 2 {
             let flags = self.flags;
-            if bit(flags[i], variable(o)) != sense(o) {
+            if bit(flags[w.number], variable(o)) != sense(o) {
                 return step.stay(self, w);
             }
             if round(o) + 1 == self.levels {
-                return step.over(self.leaves(i), w, Says::One(Kind::Leave));
+                return step.over(self.leaves(w), w, Says::One(Kind::Leave));
             }
-            return step.to(self.goes_on(i), w, Says::Nothing, 3);
+            return step.to(self.goes_on(w), w, Says::Nothing, 3);
         }
         if s.procs == 1 {
             return step.over(self, w, Says::Two(Kind::Arrive, Kind::Leave));
         }
-        let j = partner(w, round(o), s.procs);
+        let j = partner(w, round(o), s.procs as usize);
         let says = if at == 1 {
             Says::One(Kind::Arrive)
         } else {
             Says::Nothing
         };
-        return step.to(self.tells(i, j as usize), j, says, 2);
+        return step.to(self.tells(w, j), j, says, 2);
     }
 }

@@ -1,10 +1,10 @@
 // The MCS lock (figure 5).
-ghost use Rattle.std.specs.Prelude.{◌≡◌, ◌<◌};
+ghost use Rattle.std.specs.Prelude.{◌≡◌};
 ghost use Rattle.rules.specs.Mcs.{machine, set_tail, set_next, set_locked, set_pred, set_succ};
 ghost use Rattle.mcs.specs.McsView.{memory_of, Sound};
 
 use settings::Settings;
-use turns::{Kind, Machine, Says, State, Step};
+use turns::{Kind, Machine, Processor, Says, State, Step};
 
 // tail, each processor's next and locked, and what it keeps for itself: pred and succ. The state is copied at every turn, so it is packed:
 // in tail and next, nil is 0 and processor q is q + 1; in locked, true is 1.
@@ -26,42 +26,38 @@ impl Mcs {
     }
 
     #[tactic(auto, using(rules::proofs::Views::view_set))]
-    fn with_next(self, q: usize, v: u8) -> Mcs
-        requires { q < 64 }
-        ensures { memory_of result ≡ set_next q v (memory_of self) }
+    fn with_next(self, q: Processor, v: u8) -> Mcs
+        ensures { memory_of result ≡ set_next q.number v (memory_of self) }
     {
         let mut next = self.next;
-        next[q] = v;
+        next[q.number] = v;
         Mcs { next, ..self }
     }
 
     #[tactic(auto, using(rules::proofs::Views::view_set))]
-    fn with_locked(self, q: usize, v: u8) -> Mcs
-        requires { q < 64 }
-        ensures { memory_of result ≡ set_locked q v (memory_of self) }
+    fn with_locked(self, q: Processor, v: u8) -> Mcs
+        ensures { memory_of result ≡ set_locked q.number v (memory_of self) }
     {
         let mut locked = self.locked;
-        locked[q] = v;
+        locked[q.number] = v;
         Mcs { locked, ..self }
     }
 
     #[tactic(auto, using(rules::proofs::Views::view_set))]
-    fn with_pred(self, q: usize, v: u8) -> Mcs
-        requires { q < 64 }
-        ensures { memory_of result ≡ set_pred q v (memory_of self) }
+    fn with_pred(self, q: Processor, v: u8) -> Mcs
+        ensures { memory_of result ≡ set_pred q.number v (memory_of self) }
     {
         let mut pred = self.pred;
-        pred[q] = v;
+        pred[q.number] = v;
         Mcs { pred, ..self }
     }
 
     #[tactic(auto, using(rules::proofs::Views::view_set))]
-    fn with_succ(self, q: usize, v: u8) -> Mcs
-        requires { q < 64 }
-        ensures { memory_of result ≡ set_succ q v (memory_of self) }
+    fn with_succ(self, q: Processor, v: u8) -> Mcs
+        ensures { memory_of result ≡ set_succ q.number v (memory_of self) }
     {
         let mut succ = self.succ;
-        succ[q] = v;
+        succ[q.number] = v;
         Mcs { succ, ..self }
     }
 }
@@ -85,44 +81,44 @@ impl Machine for Mcs {
 
     fn step(self, step: Step, s: &Settings) -> State<Mcs> {
         let w = step.w;
-        let i = w as usize;
+        let home = Processor {
+            number: s.home as usize,
+        };
         // Every arm returns: the state is then copied nowhere.
         match step.at {
             1 => {
-                return step.to(self.with_next(i, 0), w, Says::Nothing, 2);
+                return step.to(self.with_next(w, 0), w, Says::Nothing, 2);
             }
             2 => {
                 if self.tail == 0 {
                     return step.to(
-                        self.with_tail(w + 1),
-                        s.home,
+                        self.with_tail(w.number as u16 + 1),
+                        home,
                         Says::Two(Kind::Join, Kind::Grant),
                         7,
                     );
                 }
                 return step.to(
-                    self.with_pred(i, (self.tail - 1) as u8).with_tail(w + 1),
-                    s.home,
+                    self.with_pred(w, (self.tail - 1) as u8)
+                        .with_tail(w.number as u16 + 1),
+                    home,
                     Says::One(Kind::Join),
                     3,
                 );
             }
             3 => {
-                return step.to(self.with_locked(i, 1), w, Says::Nothing, 4);
+                return step.to(self.with_locked(w, 1), w, Says::Nothing, 4);
             }
             4 => {
                 let pred = self.pred;
-                let p = pred[i];
-                return step.to(
-                    self.with_next(p as usize, (w + 1) as u8),
-                    p as u16,
-                    Says::Nothing,
-                    5,
-                );
+                let p = Processor {
+                    number: pred[w.number] as usize,
+                };
+                return step.to(self.with_next(p, (w.number + 1) as u8), p, Says::Nothing, 5);
             }
             5 => {
                 let locked = self.locked;
-                if locked[i] == 0 {
+                if locked[w.number] == 0 {
                     return step.to(self, w, Says::One(Kind::Grant), 7);
                 }
                 return step.stay(self, w);
@@ -130,9 +126,9 @@ impl Machine for Mcs {
             // Figure 5 reads next in two places. Nil leads on to the compare-and-swap at 7, and is a spin at 9.
             7 | 9 => {
                 let next = self.next;
-                let n = next[i];
+                let n = next[w.number];
                 if n != 0 {
-                    return step.to(self.with_succ(i, n - 1), w, Says::Nothing, 10);
+                    return step.to(self.with_succ(w, n - 1), w, Says::Nothing, 10);
                 }
                 if step.at == 7 {
                     return step.to(self, w, Says::Nothing, 8);
@@ -140,19 +136,17 @@ impl Machine for Mcs {
                 return step.stay(self, w);
             }
             8 => {
-                if self.tail == w + 1 {
-                    return step.over(self.with_tail(0), s.home, Says::One(Kind::Release));
+                if self.tail == w.number as u16 + 1 {
+                    return step.over(self.with_tail(0), home, Says::One(Kind::Release));
                 }
-                return step.to(self, s.home, Says::Nothing, 9);
+                return step.to(self, home, Says::Nothing, 9);
             }
             _ => {
                 let succ = self.succ;
-                let q = succ[i];
-                return step.over(
-                    self.with_locked(q as usize, 0),
-                    q as u16,
-                    Says::One(Kind::Release),
-                );
+                let q = Processor {
+                    number: succ[w.number] as usize,
+                };
+                return step.over(self.with_locked(q, 0), q, Says::One(Kind::Release));
             }
         }
     }

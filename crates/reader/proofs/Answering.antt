@@ -14,7 +14,7 @@ use Rattle.settings.specs.View.{settings_of}
 use Rattle.settings.specs.declared.record.Settings.{Settings}
 use Rattle.settings.specs.declared.refusal.Refusal.TheVariants.{TooShort}
 use Rattle.tokens.specs.declared.fault.Fault.{Fault}
-use Rattle.reader.specs.declared.front.Head.{Head}
+use Rattle.reader.specs.declared.head.Head.{Head}
 use Rattle.reader.specs.LineView.{head_of, lined}
 use Rattle.reader.specs.ReadView.{ReadIs}
 

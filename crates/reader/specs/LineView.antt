@@ -2,7 +2,7 @@
 use Rattle.rules.specs.Settings.{Settings, zeros}
 use Rattle.rules.specs.Rule.{Rule, ◌>>=◌, give}
 use Rattle.rules.specs.File.{Front, rows, settings}
-use Rattle.reader.specs.declared.front.Head.{Head}
+use Rattle.reader.specs.declared.head.Head.{Head}
 
 abbrev pub head_of : Head → Front
 head_of h = record { algo = h.algo; procs = h.procs; home = h.home; ticket = h.ticket; budget = h.budget }

@@ -4,18 +4,9 @@ ghost use Rattle.rules.specs.File.{front};
 ghost use Rattle.tokens.specs.TokenView.{got_of};
 ghost use Rattle.reader.specs.LineView.{head_of};
 
+use crate::head::Head;
 use settings::{LEAST_PROCS, MOST_BUDGET, MOST_PROCS, MOST_TICKET};
 use tokens::{Fault, Place};
-
-// What they say.
-#[derive(Clone, Copy)]
-pub(crate) struct Head {
-    pub(crate) algo: u16,
-    pub(crate) procs: u16,
-    pub(crate) home: u16,
-    pub(crate) ticket: u32,
-    pub(crate) budget: u32,
-}
 
 #[tactic(auto, unfolding(rules::specs::File::front))]
 pub(crate) fn front(p: Place<'_>) -> Result<(Head, Place<'_>), Fault>

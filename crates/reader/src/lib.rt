@@ -2,6 +2,7 @@
 #![tactic(auto)]
 
 mod front;
+mod head;
 mod lines;
 mod reading;
 mod schedule;

@@ -7,7 +7,7 @@ ghost use Rattle.settings.specs.View.{settings_of};
 ghost use Rattle.tokens.specs.TokenView.{got_of, place_of};
 ghost use Rattle.reader.specs.LineView.{head_of, lined};
 
-use crate::front::Head;
+use crate::head::Head;
 use settings::{MOST_HOLD, MOST_PROCS, MOST_ROUNDS, Settings};
 use tokens::{Fault, Place};
 
@@ -36,7 +36,6 @@ fn entries(p: Place<'_>, i: usize) -> Result<((u16, u16), Place<'_>), Fault>
 // The lines of all processors, which make the settings whole.
 #[tactic(auto, unfolding(rules::specs::File::rows))]
 pub(crate) fn lines(first: Place<'_>, h: Head) -> Result<(Settings, Place<'_>), Fault>
-    requires { h.procs ≤ most_procs }
     ensures { got_of settings_of result ≡ lined (head_of h) first.entry.rest.now first.entry.at }
 {
     let mut rounds = [0; MOST_PROCS];

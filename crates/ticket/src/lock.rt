@@ -1,10 +1,10 @@
 // The ticket lock (figure 2).
-ghost use Rattle.std.specs.Prelude.{◌≡◌, ◌<◌};
+ghost use Rattle.std.specs.Prelude.{◌≡◌};
 ghost use Rattle.rules.specs.Ticket.{machine, up, set_request, set_release, set_mine, set_found};
 ghost use Rattle.ticket.specs.TicketView.{memory_of};
 
 use settings::Settings;
-use turns::{Kind, Machine, Says, State, Step};
+use turns::{Kind, Machine, Processor, Says, State, Step};
 
 // Both counters, and what each processor keeps for itself: its ticket, and what it found in the release counter.
 #[derive(Clone, Copy)]
@@ -16,14 +16,13 @@ pub struct Ticket {
 }
 
 impl Ticket {
-    // Processor i takes the next ticket. After 65535 comes 0.
+    // Processor w takes the next ticket. After 65535 comes 0.
     #[tactic(auto, using(rules::proofs::Views::view_set))]
-    fn asks(self, i: usize) -> Ticket
-        requires { i < 64 }
-        ensures { memory_of result ≡ set_mine i self.request (set_request (up self.request) (memory_of self)) }
+    fn asks(self, w: Processor) -> Ticket
+        ensures { memory_of result ≡ set_mine w.number self.request (set_request (up self.request) (memory_of self)) }
     {
         let mut mine = self.mine;
-        mine[i] = self.request;
+        mine[w.number] = self.request;
         Ticket {
             mine,
             request: self.request.wrapping_add(1),
@@ -31,26 +30,24 @@ impl Ticket {
         }
     }
 
-    // Processor i reads the release counter.
+    // Processor w reads the release counter.
     #[tactic(auto, using(rules::proofs::Views::view_set))]
-    fn finds(self, i: usize) -> Ticket
-        requires { i < 64 }
-        ensures { memory_of result ≡ set_found i self.release (memory_of self) }
+    fn finds(self, w: Processor) -> Ticket
+        ensures { memory_of result ≡ set_found w.number self.release (memory_of self) }
     {
         let mut found = self.found;
-        found[i] = self.release;
+        found[w.number] = self.release;
         Ticket { found, ..self }
     }
 
-    // Processor i writes the release counter, one higher than it found it: the next ticket is served. After 65535 comes 0.
+    // Processor w writes the release counter, one higher than it found it: the next ticket is served. After 65535 comes 0.
     #[tactic(auto, using(rules::proofs::Views::view_at))]
-    fn frees(self, i: usize) -> Ticket
-        requires { i < 64 }
-        ensures { memory_of result ≡ set_release (up ((memory_of self).found i)) (memory_of self) }
+    fn frees(self, w: Processor) -> Ticket
+        ensures { memory_of result ≡ set_release (up ((memory_of self).found w.number)) (memory_of self) }
     {
         let found = self.found;
         Ticket {
-            release: found[i].wrapping_add(1),
+            release: found[w.number].wrapping_add(1),
             ..self
         }
     }
@@ -74,25 +71,28 @@ impl Machine for Ticket {
     }
 
     fn step(self, step: Step, s: &Settings) -> State<Ticket> {
-        let i = step.w as usize;
+        let w = step.w;
+        let home = Processor {
+            number: s.home as usize,
+        };
         // Every arm returns: the state is then copied nowhere. Step 2, where processors wait, stands behind 3: so the compiler leaves out
         // the copies of what a spin hands on.
         match step.at {
             1 => {
-                return step.to(self.asks(i), s.home, Says::One(Kind::Join), 2);
+                return step.to(self.asks(w), home, Says::One(Kind::Join), 2);
             }
             3 => {
-                return step.to(self.finds(i), s.home, Says::Nothing, 4);
+                return step.to(self.finds(w), home, Says::Nothing, 4);
             }
             2 => {
                 let mine = self.mine;
-                if self.release == mine[i] {
-                    return step.to(self, s.home, Says::One(Kind::Grant), 3);
+                if self.release == mine[w.number] {
+                    return step.to(self, home, Says::One(Kind::Grant), 3);
                 }
-                return step.stay(self, s.home);
+                return step.stay(self, home);
             }
             _ => {
-                return step.over(self.frees(i), s.home, Says::One(Kind::Release));
+                return step.over(self.frees(w), home, Says::One(Kind::Release));
             }
         }
     }

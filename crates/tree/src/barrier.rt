@@ -9,7 +9,7 @@ ghost use Rattle.turns.specs.Stepping.{goes_on, told_so};
 ghost use Rattle.tree.specs.TreeView.{memory_of, toggled, memory_next, says_next, to_next, Sound};
 
 use settings::Settings;
-use turns::{Kind, Machine, Says, State, Step, bit, with_bit};
+use turns::{Kind, Machine, Processor, Says, State, Step, bit, with_bit};
 
 // The steps after the flags are read, with their numbers in the rules: for every machine the course keeps steps as numbers.
 const SETS: u8 = 6;
@@ -35,20 +35,19 @@ pub struct Tree {
 }
 
 // The step that reads the flag in this slot of w, or the one after all flags where that child is absent.
-fn reading(w: u16, slot: u16, procs: u16) -> u8
-    requires { (w < 64) × (slot < 5) }
-    ensures { result ≡ pick (ltb (child w slot) procs) (2 + slot) 6 }
+fn reading(w: Processor, slot: usize, procs: usize) -> u8
+    requires { slot < 5 }
+    ensures { result ≡ pick (ltb (child w.number slot) procs) (2 + slot) 6 }
 {
-    if procs <= 4 * w + slot + 1 {
+    if procs <= 4 * w.number + slot + 1 {
         return SETS;
     }
     FLAGS + slot as u8
 }
 
 // What is done at this step: at step 1 the first flag is read, if there is one.
-fn doing(step: u8, w: u16, procs: u16) -> u8
-    requires { w < 64 }
-    ensures { result ≡ pick (eqb step 1) (pick (ltb (child w 0) procs) 2 6) step }
+fn doing(step: u8, w: Processor, procs: usize) -> u8
+    ensures { result ≡ pick (eqb step 1) (pick (ltb (child w.number 0) procs) 2 6) step }
 {
     if step == 1 {
         return reading(w, 0, procs);
@@ -57,17 +56,17 @@ fn doing(step: u8, w: u16, procs: u16) -> u8
 }
 
 // The step at which child c is woken, or none where it is absent: then the passage is over.
-fn waking(c: u16, step: u8, procs: u16) -> Option<u8>
+fn waking(c: usize, step: u8, procs: usize) -> Option<u8>
     ensures { result ≡ pick (ltb c procs) (Some step) None }
 {
     (c < procs).then_some(step)
 }
 
 // The step after the flags are set up. Processor 0 has nobody to tell.
-fn after_sets(w: u16, procs: u16) -> Option<u8>
-    ensures { result ≡ pick (eqb w 0) (pick (ltb 1 procs) (Some 9) None) (Some 7) }
+fn after_sets(w: Processor, procs: usize) -> Option<u8>
+    ensures { result ≡ pick (eqb w.number 0) (pick (ltb 1 procs) (Some 9) None) (Some 7) }
 {
-    if w != 0 {
+    if w.number != 0 {
         return Some(TELLS);
     }
     waking(1, WAKES_LEFT, procs)
@@ -96,58 +95,55 @@ fn leaving(first: bool) -> Says
 }
 
 impl Tree {
-    // Processor i's flags are set: none of its children has told.
-    fn sets(self, i: usize) -> Tree
-        requires { i < 64 }
-        ensures { memory_of result ≡ record { flag = upd (memory_of self).flag i (each 1); wake = (memory_of self).wake; sense = (memory_of self).sense } }
+    // Processor w's flags are set: none of its children has told.
+    fn sets(self, w: Processor) -> Tree
+        ensures { memory_of result ≡ record { flag = upd (memory_of self).flag w.number (each 1); wake = (memory_of self).wake; sense = (memory_of self).sense } }
     {
         let mut words = self.words;
-        words[i] = words[i] % 4;
+        words[w.number] %= 4;
         Tree { words }
     }
 
-    // The flag in this slot of processor i is cleared.
-    fn clears(self, i: usize, slot: u8) -> Tree
-        requires { (i < 64) × (slot < 4) }
-        ensures { memory_of result ≡ record { flag = upd (memory_of self).flag i (upd ((memory_of self).flag i) slot 0); wake = (memory_of self).wake; sense = (memory_of self).sense } }
+    // The flag in this slot of processor w is cleared.
+    fn clears(self, w: Processor, slot: u8) -> Tree
+        requires { slot < 4 }
+        ensures { memory_of result ≡ record { flag = upd (memory_of self).flag w.number (upd ((memory_of self).flag w.number) slot 0); wake = (memory_of self).wake; sense = (memory_of self).sense } }
     {
         let mut words = self.words;
-        words[i] = with_bit(words[i], FLAGS + slot, 1);
+        words[w.number] = with_bit(words[w.number], FLAGS + slot, 1);
         Tree { words }
     }
 
-    // Processor c is woken with i's sense.
-    fn wakes(self, i: usize, c: usize) -> Tree
-        requires { (i < 64) × (c < 64) }
-        ensures { memory_of result ≡ record { flag = (memory_of self).flag; wake = upd (memory_of self).wake c ((memory_of self).sense i); sense = (memory_of self).sense } }
+    // Processor c is woken with w's sense.
+    fn wakes(self, w: Processor, c: Processor) -> Tree
+        ensures { memory_of result ≡ record { flag = (memory_of self).flag; wake = upd (memory_of self).wake c.number ((memory_of self).sense w.number); sense = (memory_of self).sense } }
     {
         let mut words = self.words;
-        words[c] = with_bit(words[c], WAKE, bit(words[i], SENSE));
+        words[c.number] = with_bit(words[c.number], WAKE, bit(words[w.number], SENSE));
         Tree { words }
     }
 
-    // Processor i's own sense is toggled.
-    fn toggles(self, i: usize) -> Tree
-        requires { i < 64 }
-        ensures { memory_of result ≡ toggled (memory_of self) i }
+    // Processor w's own sense is toggled.
+    fn toggles(self, w: Processor) -> Tree
+        ensures { memory_of result ≡ toggled (memory_of self) w.number }
     {
         let mut words = self.words;
-        words[i] = with_bit(words[i], SENSE, 1 - bit(words[i], SENSE));
+        words[w.number] = with_bit(words[w.number], SENSE, 1 - bit(words[w.number], SENSE));
         Tree { words }
     }
 
     // How a step ends: the passage goes on at the next step, or there is none and it is over.
-    fn ends(self, step: Step, next: Option<u8>, owner: u16) -> State<Tree>
+    fn ends(self, step: Step, next: Option<u8>, owner: Processor) -> State<Tree>
         requires { IfSome next (λ k. k ≤ 10) }
-        ensures memory { memory_of result.memory ≡ memory_next next (memory_of self) step.w }
-        ensures course { course_of result.course ≡ goes_on (course_of step.course) step.w (says_next next (eqb step.at 1)) (to_next next) step.hold }
-        ensures tells { told_of step.w result.made ≡ told_so step.w step.at owner (says_next next (eqb step.at 1)) (to_next next) }
+        ensures memory { memory_of result.memory ≡ memory_next next (memory_of self) step.w.number }
+        ensures course { course_of result.course ≡ goes_on (course_of step.course) step.w.number (says_next next (eqb step.at 1)) (to_next next) step.hold }
+        ensures tells { told_of step.w.number result.made ≡ told_so step.w.number step.at owner.number (says_next next (eqb step.at 1)) (to_next next) }
     {
         let first = step.at == 1;
         if let Some(at) = next {
             return step.to(self, owner, arrival(first), at);
         }
-        step.over(self.toggles(step.w as usize), owner, leaving(first))
+        step.over(self.toggles(step.w), owner, leaving(first))
     }
 }
 
@@ -166,17 +162,19 @@ impl Machine for Tree {
     fn step(self, step: Step, s: &Settings) -> State<Tree> {
         let w = step.w;
         let at = step.at;
-        let i = w as usize;
         let words = self.words;
-        let word = words[i];
+        let word = words[w.number];
         let first = at == 1;
-        let k = doing(at, w, s.procs);
+        let procs = s.procs as usize;
+        let k = doing(at, w, procs);
         match k {
-            SETS => self.sets(i).ends(step, after_sets(w, s.procs), w),
+            SETS => self.sets(w).ends(step, after_sets(w, procs), w),
             TELLS => {
-                let parent = (w - 1) / 4;
+                let parent = Processor {
+                    number: (w.number - 1) / 4,
+                };
                 step.to(
-                    self.clears(parent as usize, ((w - 1) % 4) as u8),
+                    self.clears(parent, ((w.number - 1) % 4) as u8),
                     parent,
                     Says::Nothing,
                     WAITS,
@@ -186,22 +184,26 @@ impl Machine for Tree {
                 if bit(word, WAKE) != bit(word, SENSE) {
                     return step.stay(self, w);
                 }
-                self.ends(step, waking(2 * w + 1, WAKES_LEFT, s.procs), w)
+                self.ends(step, waking(2 * w.number + 1, WAKES_LEFT, procs), w)
             }
             WAKES_LEFT => {
-                let c = 2 * w + 1;
-                self.wakes(i, c as usize)
-                    .ends(step, waking(c + 1, WAKES_RIGHT, s.procs), c)
+                let c = Processor {
+                    number: 2 * w.number + 1,
+                };
+                self.wakes(w, c)
+                    .ends(step, waking(c.number + 1, WAKES_RIGHT, procs), c)
             }
             WAKES_RIGHT => {
-                let c = 2 * w + 2;
-                self.wakes(i, c as usize).ends(step, None, c)
+                let c = Processor {
+                    number: 2 * w.number + 2,
+                };
+                self.wakes(w, c).ends(step, None, c)
             }
             _ => {
                 if bit(word, k) == 0 {
                     return step.again(self, w, arrival(first), k);
                 }
-                step.to(self, w, arrival(first), reading(w, k as u16 - 1, s.procs))
+                step.to(self, w, arrival(first), reading(w, k as usize - 1, procs))
             }
         }
     }

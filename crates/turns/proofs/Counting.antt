@@ -136,13 +136,13 @@ module _ (w : ℕ) where
         let z = begins_few (table a) made.began (room.few 1 (omega arith)) (room.few 3 (omega arith)) in
         (place_b, subst (λ (t : Table). t 1 w < 65535) (sym table_b) z.0, subst (λ (t : Table). t 3 w < 65535) (sym table_b) z.1)
 
-    module _ (c : List ℕ) (ec : c ≡ pick (eqb made.owner w) b (farther (w * 6) b)) where
+    module _ (c : List ℕ) (ec : c ≡ pick (eqb made.owner.number w) b (farther (w * 6) b)) where
       place_c : w * 6 + 5 < length c
-      place_c = rw ec (either (λ (l : List ℕ). w * 6 + 5 < length l) (eqb made.owner w) b (farther (w * 6) b) place_b (simp length-set place_b))
+      place_c = rw ec (either (λ (l : List ℕ). w * 6 + 5 < length l) (eqb made.owner.number w) b (farther (w * 6) b) place_b (simp length-set place_b))
 
-      table_c : Front (table a) made.began (eqb made.owner w) (table c)
+      table_c : Front (table a) made.began (eqb made.owner.number w) (table c)
       unfolding column table
-      table_c = rw (ec, far_table b place_b (eqb made.owner w), table_b) (front (table a) made.began (eqb made.owner w) room.low)
+      table_c = rw (ec, far_table b place_b (eqb made.owner.number w), table_b) (front (table a) made.began (eqb made.owner.number w) room.low)
 
       pub room_went : (w * 6 + 5 < length c) × (get_or c (w * 6) 0 < 65535) × (get_or c (w * 6 + 4) 0 < 65535) × (get_or c (w * 6 + 5) 0 < 65535)
       unfolding column table

@@ -100,6 +100,7 @@ module _ {m : Machine} {s : Settings} {turns events₀ events : List ℕ} {x : m
   module _ {w : ℕ} (read : (k < length turns) × ((d : ℕ) → w ≡ get_or turns k d)) where
     pub record Known : Type 0 where
       pub below : w < s.procs
+      pub home : s.home < s.procs
       pub procs : s.procs ≤ most_procs
       pub low : w < most_procs
       pub done : c.done w < 65535
@@ -111,6 +112,7 @@ module _ {m : Machine} {s : Settings} {turns events₀ events : List ℕ} {x : m
         let done : c.done w ≤ k = rw h.has.course at (h.going.small.done w) in
         record {
           below = below;
+          home = ok.home;
           procs = ok.procs_high;
           low = omega (arith, ok.procs_high);
           done = omega (arith, done, ok.few);
@@ -118,7 +120,7 @@ module _ {m : Machine} {s : Settings} {turns events₀ events : List ℕ} {x : m
 
     -- the turn is made: `tell` may be called, and the run ends before it or goes on after it
     pub record Made {x' : m.State} {c' : Course} {d : Told} (t : Turned m s x c w x' c' d) (far : ℕ) : Type 0 where
-      pub tell : (w < most_procs) × Room w a × (n + 2 ≤ length events)
+      pub tell : Room w a × (n + 2 ≤ length events)
       pub past : s.budget < total + far → PlayedIs m s turns events₀ events (record { stop = Budget; taken = k; events = n; total = total; sums = a })
       pub on : total + far ≤ s.budget → {b events' : List ℕ} {n' : ℕ} → Counted w d a b × Noted events n d.codes events' n' → length b ≡ length a
           → Held m s turns events₀ events' x' c' b (total + far) n' (k + 1)
@@ -182,7 +184,7 @@ module _ {m : Machine} {s : Settings} {turns events₀ events : List ℕ} {x : m
 
         pub held_made : Made turned far
         held_made = record {
-          tell = (held_known.low, room_of, omega (arith, h.count, events_are, h.going.few, h.wide, h.long, read.0));
+          tell = (room_of, omega (arith, h.count, events_are, h.going.few, h.wide, h.long, read.0));
           past = past;
           on = on;
         }

@@ -60,11 +60,11 @@ bit_kept word v value e = fun_ext (λ u. go u (ℕ_discrete u v))
     go u (no n) = rw (upd_other (bits word) v value u n)
 
 -- a power of two as the code makes it
-pub power : (v : ℕ) → v < 16 → (1 * 2 ^ v) % 2 ^ 16 ≡ 2 ^ v
-power v h = shl_exact 1 v 16 (omega arith) (omega arith) ∙ one-mul (2 ^ v)
+pub power : (width v : ℕ) → v < width → (1 * 2 ^ v) % 2 ^ width ≡ 2 ^ v
+power width v h = shl_exact 1 v width (omega arith) (omega arith) ∙ one-mul (2 ^ v)
 
 -- the other value
 pub bit_changed : (word v value : ℕ) → v < 16 → value < 2 → (bits word v ≡ value → ⊥) → bits (bit_xor word ((1 * 2 ^ v) % 2 ^ 16)) ≡ upd (bits word) v value
 bit_changed word v value h k n =
     let is : 1 - bits word v ≡ value = omega (arith, bits< word v) in
-    rw (power v h, ← is) (toggled word v)
+    rw (power 16 v h, ← is) (toggled word v)

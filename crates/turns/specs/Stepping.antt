@@ -14,9 +14,10 @@ pub record Fits (s : Settings) : Type 0 where
   pub procs_high : s.procs ≤ most_procs
   pub ticket : s.ticket ≤ most_ticket
 
--- a step with these settings: its processor is one of theirs, and has so many hold turns
+-- a step with these settings: its processor and home are two of theirs, and it has so many hold turns
 pub record Asked (s : Settings) (w h : ℕ) : Type 0 where
   pub below : w < s.procs
+  pub home : s.home < s.procs
   pub procs : s.procs ≤ most_procs
   pub hold : h ≡ entry s.hold w
 

@@ -71,7 +71,7 @@ codes_of w says = map code (said w (says_of says))
 
 abbrev pub told_of : ℕ → Made → Told
 told_of w m = record {
-  far = pick (eqb m.owner w) 0 1;
+  far = pick (eqb m.owner.number w) 0 1;
   codes = codes_of w m.says;
   began = m.began;
   done = is_over m.went;

@@ -4,6 +4,8 @@ ghost use Rattle.rules.specs.Memory.{pick};
 ghost use Rattle.rules.specs.Course.{outset};
 ghost use Rattle.turns.specs.View.{course_of, holds, held, gone_to, ended, Dues};
 
+use crate::processor::Processor;
+
 // at: the step, and HOLDS more where hold turns come first. left: how many of these follow the next one.
 // gap is 0. It parts the rows: the compiler then copies only those that a turn changes.
 #[derive(Clone, Copy)]
@@ -45,10 +47,10 @@ impl Course {
         }
     }
 
-    pub(crate) fn due(self, i: usize, rounds: u16) -> Due
-        requires { i < 64 }
-        ensures { Dues (course_of self) i rounds result }
+    pub(crate) fn due(self, w: Processor, rounds: u16) -> Due
+        ensures { Dues (course_of self) w.number rounds result }
     {
+        let i = w.number;
         let at = self.at;
         let step = at[i];
         if step >= HOLDS {
@@ -63,12 +65,12 @@ impl Course {
         Due::Step(step)
     }
 
-    // After a hold turn of processor i.
-    pub(crate) fn held(self, i: usize) -> Course
-        requires in_rows { i < 64 }
-        requires left { 0 < (course_of self).left i }
-        ensures { course_of result ≡ held (course_of self) i }
+    // After a hold turn of processor w.
+    pub(crate) fn held(self, w: Processor) -> Course
+        requires { 0 < (course_of self).left w.number }
+        ensures { course_of result ≡ held (course_of self) w.number }
     {
+        let i = w.number;
         let mut at = self.at;
         let mut left = self.left;
         let more = left[i];
@@ -77,12 +79,12 @@ impl Course {
         Course { at, left, ..self }
     }
 
-    // Processor i goes to this step, after its hold turns.
-    pub(crate) fn goes(self, i: usize, step: u8, hold: u8) -> Course
-        requires in_rows { i < 64 }
-        requires step { step < holds }
-        ensures { course_of result ≡ gone_to (course_of self) i step hold }
+    // Processor w goes to this step, after its hold turns.
+    pub(crate) fn goes(self, w: Processor, step: u8, hold: u8) -> Course
+        requires { step < holds }
+        ensures { course_of result ≡ gone_to (course_of self) w.number step hold }
     {
+        let i = w.number;
         let mut at = self.at;
         let mut left = self.left;
         at[i] = after_hold(step, hold);
@@ -90,14 +92,13 @@ impl Course {
         Course { at, left, ..self }
     }
 
-    // One passage more of processor i is done.
-    pub(crate) fn ends(self, i: usize) -> Course
-        requires in_rows { i < 64 }
-        requires few { (course_of self).done i < 65535 }
-        ensures { course_of result ≡ ended (course_of self) i }
+    // One passage more of processor w is done.
+    pub(crate) fn ends(self, w: Processor) -> Course
+        requires { (course_of self).done w.number < 65535 }
+        ensures { course_of result ≡ ended (course_of self) w.number }
     {
         let mut done = self.done;
-        done[i] += 1;
+        done[w.number] += 1;
         Course { done, ..self }
     }
 }

@@ -8,6 +8,7 @@ mod machine;
 mod made;
 mod played;
 mod playing;
+mod processor;
 mod says;
 mod step;
 
@@ -15,5 +16,6 @@ pub use bits::{bit, with_bit};
 pub use machine::{Machine, State};
 pub use played::{Played, Stop};
 pub use playing::play;
+pub use processor::Processor;
 pub use says::{Kind, Says};
 pub use step::Step;

@@ -12,6 +12,7 @@ ghost use Rattle.turns.specs.Stepping.{Fits, Asked, Stepped, goes_on, told_so};
 
 use crate::course::Course;
 use crate::made::{Made, Went};
+use crate::processor::Processor;
 use crate::says::Says;
 use crate::step::Step;
 use settings::Settings;
@@ -34,9 +35,9 @@ pub trait Machine: Copy {
 
     // Makes this step.
     fn step(self, step: Step, s: &Settings) -> State<Self>
-        requires asked { Asked (settings_of s.now) step.w step.hold }
+        requires asked { Asked (settings_of s.now) step.w.number step.hold }
         requires sound { sound (settings_of s.now) self (course_of step.course).at }
-        ensures stepped { Stepped rules (settings_of s.now) (memory self) (course_of step.course) step.at step.w (memory result.memory) (course_of result.course) (told_of step.w result.made) }
+        ensures stepped { Stepped rules (settings_of s.now) (memory self) (course_of step.course) step.at step.w.number (memory result.memory) (course_of result.course) (told_of step.w.number result.made) }
         ensures sound { sound (settings_of s.now) result.memory (course_of result.course).at };
 }
 
@@ -58,30 +59,29 @@ impl<M: Machine> State<M> {
         State {
             memory: M::start(s),
             course: Course::start(),
-            made: rests(0, Went::On),
+            made: rests(Processor { number: 0 }, Went::On),
         }
     }
 
     // A hold turn of processor w.
-    pub(crate) fn holds(self, w: u16) -> State<M>
-        requires below { w < 64 }
-        requires left { 0 < (course_of self.course).left w }
+    pub(crate) fn holds(self, w: Processor) -> State<M>
+        requires { 0 < (course_of self.course).left w.number }
         ensures memory { result.memory ≡ self.memory }
-        ensures course { course_of result.course ≡ held (course_of self.course) w }
-        ensures tells { told_of w result.made ≡ untold false }
+        ensures course { course_of result.course ≡ held (course_of self.course) w.number }
+        ensures tells { told_of w.number result.made ≡ untold false }
     {
         State {
             memory: self.memory,
-            course: self.course.held(w as usize),
+            course: self.course.held(w),
             made: rests(w, Went::On),
         }
     }
 
     // An idle turn of processor w.
-    pub(crate) fn idles(self, w: u16) -> State<M>
+    pub(crate) fn idles(self, w: Processor) -> State<M>
         ensures memory { result.memory ≡ self.memory }
         ensures course { result.course ≡ self.course }
-        ensures tells { told_of w result.made ≡ untold true }
+        ensures tells { told_of w.number result.made ≡ untold true }
     {
         State {
             memory: self.memory,
@@ -92,7 +92,7 @@ impl<M: Machine> State<M> {
 }
 
 // What is told of a turn of processor w without an access.
-fn rests(w: u16, went: Went) -> Made
+fn rests(w: Processor, went: Went) -> Made
     ensures { result ≡ record { owner = w; says = Nothing; began = false; went = went } }
 {
     Made {
@@ -112,7 +112,7 @@ impl Step {
         if says.holds() { self.hold } else { 0 }
     }
 
-    fn made(self, owner: u16, says: Says, went: Went) -> Made
+    fn made(self, owner: Processor, says: Says, went: Went) -> Made
         ensures { result ≡ record { owner = owner; says = says; began = eqb self.at 1; went = went } }
     {
         Made {
@@ -124,10 +124,10 @@ impl Step {
     }
 
     // It spins, and has to be made again.
-    pub fn stay<M>(self, memory: M, owner: u16) -> State<M>
+    pub fn stay<M>(self, memory: M, owner: Processor) -> State<M>
         ensures memory { result.memory ≡ memory }
-        ensures course { course_of result.course ≡ goes_on (course_of self.course) self.w nothing stay self.hold }
-        ensures tells { told_of self.w result.made ≡ told_so self.w self.at owner nothing stay }
+        ensures course { course_of result.course ≡ goes_on (course_of self.course) self.w.number nothing stay self.hold }
+        ensures tells { told_of self.w.number result.made ≡ told_so self.w.number self.at owner.number nothing stay }
         ensures owner { result.made.owner ≡ owner }
     {
         State {
@@ -138,46 +138,46 @@ impl Step {
     }
 
     // It spins, and the processor goes on at this step.
-    pub fn again<M>(self, memory: M, owner: u16, says: Says, at: u8) -> State<M>
+    pub fn again<M>(self, memory: M, owner: Processor, says: Says, at: u8) -> State<M>
         requires { at < holds }
         ensures memory { result.memory ≡ memory }
-        ensures course { course_of result.course ≡ goes_on (course_of self.course) self.w (says_of says) (again at) self.hold }
-        ensures tells { told_of self.w result.made ≡ told_so self.w self.at owner (says_of says) (again at) }
+        ensures course { course_of result.course ≡ goes_on (course_of self.course) self.w.number (says_of says) (again at) self.hold }
+        ensures tells { told_of self.w.number result.made ≡ told_so self.w.number self.at owner.number (says_of says) (again at) }
         ensures owner { result.made.owner ≡ owner }
     {
         State {
             memory,
-            course: self.course.goes(self.w as usize, at, self.hold_after(says)),
+            course: self.course.goes(self.w, at, self.hold_after(says)),
             made: self.made(owner, says, Went::Spun),
         }
     }
 
     // The processor goes on to this step.
-    pub fn to<M>(self, memory: M, owner: u16, says: Says, at: u8) -> State<M>
+    pub fn to<M>(self, memory: M, owner: Processor, says: Says, at: u8) -> State<M>
         requires { at < holds }
         ensures memory { result.memory ≡ memory }
-        ensures course { course_of result.course ≡ goes_on (course_of self.course) self.w (says_of says) (to at) self.hold }
-        ensures tells { told_of self.w result.made ≡ told_so self.w self.at owner (says_of says) (to at) }
+        ensures course { course_of result.course ≡ goes_on (course_of self.course) self.w.number (says_of says) (to at) self.hold }
+        ensures tells { told_of self.w.number result.made ≡ told_so self.w.number self.at owner.number (says_of says) (to at) }
         ensures owner { result.made.owner ≡ owner }
     {
         State {
             memory,
-            course: self.course.goes(self.w as usize, at, self.hold_after(says)),
+            course: self.course.goes(self.w, at, self.hold_after(says)),
             made: self.made(owner, says, Went::On),
         }
     }
 
     // The passage is done.
-    pub fn over<M>(self, memory: M, owner: u16, says: Says) -> State<M>
+    pub fn over<M>(self, memory: M, owner: Processor, says: Says) -> State<M>
         ensures memory { result.memory ≡ memory }
-        ensures course { course_of result.course ≡ goes_on (course_of self.course) self.w (says_of says) over self.hold }
-        ensures tells { told_of self.w result.made ≡ told_so self.w self.at owner (says_of says) over }
+        ensures course { course_of result.course ≡ goes_on (course_of self.course) self.w.number (says_of says) over self.hold }
+        ensures tells { told_of self.w.number result.made ≡ told_so self.w.number self.at owner.number (says_of says) over }
         ensures owner { result.made.owner ≡ owner }
     {
-        let i = self.w as usize;
+        let w = self.w;
         State {
             memory,
-            course: self.course.ends(i).goes(i, 1, self.hold_after(says)),
+            course: self.course.ends(w).goes(w, 1, self.hold_after(says)),
             made: self.made(owner, says, Went::Over),
         }
     }

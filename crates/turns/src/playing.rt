@@ -7,6 +7,7 @@ use crate::counts::{far_of, tell};
 use crate::course::Due;
 use crate::machine::{Machine, State};
 use crate::played::{Played, Stop};
+use crate::processor::Processor;
 use crate::step::Step;
 use settings::Trial;
 
@@ -21,12 +22,14 @@ pub fn play<M: Machine>(trial: Trial<'_>, events: &mut [u16]) -> Played
     let mut k: usize = 0;
     // As document 01 has it, the loop breaks with why it stops and the turns taken.
     let (stop, taken) = loop {
-        let Some(&w) = trial.schedule.get(k) else {
+        let Some(&turn) = trial.schedule.get(k) else {
             break (Stop::UsedUp, k);
         };
-        let i = w as usize;
+        let w = Processor {
+            number: turn as usize,
+        };
         // Each arm stores the next state by itself: in a function of its own, or as the value of the match, a turn costs up to 70 percent more.
-        match state.course.due(i, trial.settings.rounds[i]) {
+        match state.course.due(w, trial.settings.rounds[w.number]) {
             Due::Hold => state = state.holds(w),
             Due::Idle => state = state.idles(w),
             Due::Step(at) => {
@@ -34,7 +37,7 @@ pub fn play<M: Machine>(trial: Trial<'_>, events: &mut [u16]) -> Played
                     course: state.course,
                     w,
                     at,
-                    hold: trial.settings.hold[i] as u8,
+                    hold: trial.settings.hold[w.number] as u8,
                 };
                 state = state.memory.step(step, &trial.settings);
             }

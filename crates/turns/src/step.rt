@@ -3,16 +3,16 @@ ghost use Rattle.std.specs.Prelude.{◌≡◌, ◌<◌};
 ghost use Rattle.turns.specs.View.{course_of};
 
 use crate::course::Course;
+use crate::processor::Processor;
 
 // Processor w's next turn is no hold turn and not idle: it is the step at this place of its program. hold: how many hold turns follow a grant or a leaving.
 #[derive(Clone, Copy)]
 pub struct Step {
     pub(crate) course: Course,
-    pub w: u16,
+    pub w: Processor,
     pub at: u8,
     pub(crate) hold: u8,
-    pub ghost here: { (course_of course).at w ≡ at },
-    pub ghost none_left: { (course_of course).left w ≡ 0 },
-    pub ghost few: { (course_of course).done w < 65535 },
-    pub ghost below: { w < 64 },
+    pub ghost here: { (course_of course).at w.number ≡ at },
+    pub ghost none_left: { (course_of course).left w.number ≡ 0 },
+    pub ghost few: { (course_of course).done w.number < 65535 },
 }

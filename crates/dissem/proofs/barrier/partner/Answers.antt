@@ -6,13 +6,13 @@ use Rattle.rules.proofs.Levels.{doublings≤, round_below}
 use Rattle.turns.proofs.Words.{power}
 use Rattle.dissem.proofs.barrier.partner.Goals as goal
 
--- in each of the R rounds the power is below 2 ^ 16
+-- in each of the R rounds the power is below 2 ^ 64
 module _ {k procs : ℕ} (most : procs ≤ 64) (round : k < doublings procs) where
-  shift< : k < 16
+  shift< : k < 64
   shift< = omega (arith, doublings≤ procs most)
 
-  shifted : (1 * 2 ^ k) % 2 ^ 16 ≡ 2 ^ k
-  shifted = power k shift<
+  shifted : (1 * 2 ^ k) % 2 ^ 64 ≡ 2 ^ k
+  shifted = power 64 k shift<
 
 pub overflow_shl-j : goal.overflow_shl-j
 overflow_shl-j c = shift< c.requires.procs c.requires.round
@@ -21,17 +21,17 @@ pub overflow_add-j : goal.overflow_add-j
 overflow_add-j c =
     omega (arith, shifted c.requires.procs c.requires.round, round_below c.args.procs c.args.k c.requires.round)
 
-pub returns-then-procs-j-clause-is : goal.returns-then-procs-j-clause-is
-returns-then-procs-j-clause-is c =
+pub invariant_of-result : goal.invariant_of-result
+invariant_of-result c =
+    record { below = omega (arith, shifted c.requires.procs c.requires.round, round_below c.args.procs c.args.k c.requires.round) }
+
+pub returns-then-procs-j : goal.returns-then-procs-j
+returns-then-procs-j c =
     let p = shifted c.requires.procs c.requires.round in
     let below = round_below c.args.procs c.args.k c.requires.round in
     rw p (sym (mod-eq-sub-mod (omega (arith, p)) ∙ mod-eq_of_lt (omega arith)))
 
-pub returns-then-procs-j-clause-below : goal.returns-then-procs-j-clause-below
-returns-then-procs-j-clause-below c =
-    omega (arith, shifted c.requires.procs c.requires.round, round_below c.args.procs c.args.k c.requires.round)
-
-pub returns-else-procs-j-clause-is : goal.returns-else-procs-j-clause-is
-returns-else-procs-j-clause-is c =
+pub returns : goal.returns
+returns c =
     let p = shifted c.requires.procs c.requires.round in
     rw p (sym (mod-eq_of_lt (omega (arith, p))))

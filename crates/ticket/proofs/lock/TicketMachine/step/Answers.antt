@@ -11,13 +11,13 @@ use Rattle.ticket.proofs.lock.TicketMachine.step.Goals as goal
 pub returns-in-1-clause-stepped : goal.returns-in-1-clause-stepped
 unfolding step remote
 returns-in-1-clause-stepped c =
-    stepped (asks (settings_of c.args.s.now) (memory_of c.args.self) c.args.step.w) c.args.s.now.home (search rules)
+    stepped (asks (settings_of c.args.s.now) (memory_of c.args.self) c.args.step.w.number) c.args.s.now.home (search rules)
     (search rules) refl c.requires.asked.hold (search rules) (search rules)
 
 pub returns-in-3-clause-stepped : goal.returns-in-3-clause-stepped
 unfolding step remote
 returns-in-3-clause-stepped c =
-    stepped (finds (settings_of c.args.s.now) (memory_of c.args.self) c.args.step.w) c.args.s.now.home (search rules)
+    stepped (finds (settings_of c.args.s.now) (memory_of c.args.self) c.args.step.w.number) c.args.s.now.home (search rules)
     (search rules) refl c.requires.asked.hold (search rules) (search rules)
 
 pub returns-then-self-mine-clause-stepped : goal.returns-then-self-mine-clause-stepped
@@ -35,6 +35,6 @@ returns-in-2-clause-stepped c =
 pub returns-in_default-clause-stepped : goal.returns-in_default-clause-stepped
 unfolding step remote
 returns-in_default-clause-stepped c =
-    stepped (frees (settings_of c.args.s.now) (memory_of c.args.self) c.args.step.w) c.args.s.now.home
+    stepped (frees (settings_of c.args.s.now) (memory_of c.args.self) c.args.step.w.number) c.args.s.now.home
     (search rules)
     (search rules) refl c.requires.asked.hold (search rules) (search rules)

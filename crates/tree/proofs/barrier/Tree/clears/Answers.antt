@@ -6,5 +6,5 @@ use Rattle.tree.proofs.barrier.Tree.clears.Goals as goal
 
 pub returns : goal.returns
 returns c =
-    let p : Place c.args.self.words c.args.i = search rules in
+    let p : Place c.args.self.words c.args.w.number = search rules in
     flag_cleared p _ _ c.with_bit.ensures

@@ -11,5 +11,5 @@ overflow_sub-bit c =
 
 pub returns : goal.returns
 returns c =
-    let p : Place c.args.self.words c.args.i = search rules in
+    let p : Place c.args.self.words c.args.w.number = search rules in
     rw (sense_is p _ c.bit.ensures) (sense_stored p _ _ c.with_bit.ensures)

@@ -11,6 +11,6 @@ with_bit-requires c =
 
 pub returns : goal.returns
 returns c =
-    let p : Place c.args.self.words c.args.c = search rules in
-    let q : Place c.args.self.words c.args.i = search rules in
+    let p : Place c.args.self.words c.args.c.number = search rules in
+    let q : Place c.args.self.words c.args.w.number = search rules in
     rw (sense_is q _ c.bit.ensures) (wake_stored p _ _ c.with_bit.ensures)

@@ -10,5 +10,5 @@ overflow_add-done c = search rules
 
 pub returns : goal.returns
 returns c =
-    let r : Rows c.args.self c.args.i = search rules in
+    let r : Rows c.args.self c.args.w.number = search rules in
     same_course _ _ refl refl (view_put 0 r.done (rw (view_at 0 r.done)))
