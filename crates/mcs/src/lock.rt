@@ -6,8 +6,8 @@ ghost use Rattle.mcs.specs.McsView.{memory_of, Sound};
 use settings::Settings;
 use turns::{Kind, Machine, Processor, Says, State, Step};
 
-// tail, each processor's next and locked, and what it keeps for itself: pred and succ. The state is copied at every turn, so it is packed:
-// in tail and next, nil is 0 and processor q is q + 1; in locked, true is 1.
+// tail, each processor's next and locked, and what it keeps for itself: pred and succ. The state is copied at every turn, so it is packed,
+// in rows and no row of structs (DECISIONS 22): in tail and next, nil is 0 and processor q is q + 1; in locked, true is 1.
 #[derive(Clone, Copy)]
 pub struct Mcs {
     tail: u16,

@@ -6,7 +6,8 @@ ghost use Rattle.ticket.specs.TicketView.{memory_of};
 use settings::Settings;
 use turns::{Kind, Machine, Processor, Says, State, Step};
 
-// Both counters, and what each processor keeps for itself: its ticket, and what it found in the release counter.
+// Both counters, and what each processor keeps for itself: its ticket, and what it found in the release counter:
+// two rows and no row of structs, since a step copies what it changes (DECISIONS 22).
 #[derive(Clone, Copy)]
 pub struct Ticket {
     mine: [u16; 64],

@@ -7,7 +7,7 @@ ghost use Rattle.turns.specs.View.{course_of, holds, held, gone_to, ended, Dues}
 use crate::processor::Processor;
 
 // at: the step, and HOLDS more where hold turns come first. left: how many of these follow the next one.
-// gap is 0. It parts the rows: the compiler then copies only those that a turn changes.
+// Rows, and no row of structs: a turn copies what it changes, and this is the least (DECISIONS 22). gap is 0 and parts the rows for the same.
 #[derive(Clone, Copy)]
 pub struct Course {
     done: [u16; 64],
@@ -24,6 +24,7 @@ pub enum Due {
     Step(u8),
 }
 
+// A step is below it: whoever names a step does so by a literal.
 const HOLDS: u8 = 128;
 
 // The step as it stands in the row, with this many hold turns before it.

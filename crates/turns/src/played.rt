@@ -9,7 +9,7 @@ pub enum Stop {
     Budget = 1,
 }
 
-// taken: turns. events: how many. sums: six numbers for each processor.
+// taken: turns. events: how many. sums: six numbers for each processor, in one plain row (document 01: the core works over these).
 #[derive(Clone, Copy)]
 pub struct Played {
     pub stop: Stop,
