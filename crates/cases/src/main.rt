@@ -5,7 +5,7 @@
 
 mod stored;
 
-use input::{Given, read_full};
+use input::{Given, WIDTH, read_full};
 use lines::Run;
 use machine::{Record, Tallied, tallies};
 use settings::MOST_PROCS;
@@ -49,8 +49,8 @@ fn show(rt: &impl Print, t: Tallied, procs: usize, events: &[u16]) -> io::Result
 fn play(rt: &impl Print, given: &mut Given<'_>) -> io::Result<()> {
     let mut schedule = [0u16; TURNS];
     let mut events = [MARK; ROOM];
-    let room = given.number::<usize>().min(ROOM);
-    let records = given.number();
+    let room = given.size().min(ROOM);
+    let records = given.size();
     let settings = stored_settings(given);
     let schedule = stored_turns(given, &mut schedule);
     let events = &mut events[..room];
@@ -59,7 +59,7 @@ fn play(rt: &impl Print, given: &mut Given<'_>) -> io::Result<()> {
 }
 
 fn play_all(rt: &impl Print, given: &mut Given<'_>) -> io::Result<()> {
-    for k in 0..given.number::<usize>() {
+    for k in 0..given.size() {
         println!(rt; "case={k}")?;
         play(rt, given)?;
     }
@@ -69,6 +69,7 @@ fn play_all(rt: &impl Print, given: &mut Given<'_>) -> io::Result<()> {
 // What cannot be printed is left out.
 fn main(rt: HostRuntime) {
     let mut input = [0u8; MOST_BYTES];
-    let mut given = Given::new(read_full(&rt, &mut input));
+    let input = read_full(&rt, &mut input);
+    let mut given = Given::new(&input[..input.len() / WIDTH * WIDTH]);
     let _ = play_all(&rt, &mut given);
 }

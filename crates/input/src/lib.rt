@@ -4,5 +4,5 @@
 mod given;
 mod reading;
 
-pub use given::Given;
+pub use given::{Given, WIDTH};
 pub use reading::read_full;

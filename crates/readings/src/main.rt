@@ -64,7 +64,7 @@ fn show(
 fn read_next(rt: &impl Print, given: &mut Given<'_>) -> io::Result<()> {
     let mut file = [0u8; MOST_LENGTH];
     let mut schedule = [MARK; MOST_ROOM];
-    let room = given.number::<usize>().min(MOST_ROOM);
+    let room = given.size().min(MOST_ROOM);
     let schedule = &mut schedule[..room];
     let file = stored_file(given, &mut file);
     let answer = read(file, schedule);
@@ -72,7 +72,7 @@ fn read_next(rt: &impl Print, given: &mut Given<'_>) -> io::Result<()> {
 }
 
 fn read_all(rt: &impl Print, given: &mut Given<'_>) -> io::Result<()> {
-    for k in 0..given.number::<usize>() {
+    for k in 0..given.size() {
         println!(rt; "file={k}")?;
         read_next(rt, given)?;
     }
