@@ -7,7 +7,7 @@ ghost use Rattle.central.specs.CentralView.{memory_of};
 use settings::Settings;
 use turns::{Kind, Machine, Processor, Says, State, Step};
 
-// The count and the sense, and each processor's local sense. True is 1.
+// The count and the sense, and each processor's local sense. True is 1, as in the rules.
 #[derive(Clone, Copy)]
 pub struct Central {
     count: u16,

@@ -1,6 +1,7 @@
 // The lines of a run.
 use machine::{Answer, Record};
 use std::fmt;
+use turns::Kind;
 
 // table: the processors' records. events: those that were written.
 #[derive(Clone, Copy)]
@@ -10,20 +11,20 @@ pub struct Run<'a> {
     pub events: &'a [u16],
 }
 
-// An entry of document 01's row of events: the kind × 256 + the processor.
+// An entry of document 01's row of events, which holds numbers: the kind × 256 + the processor.
 #[derive(Clone, Copy)]
 struct Event(u16);
 
 // The first letter of join, grant, release, arrive or leave, and the processor.
 impl fmt::Display for Event {
     fn fmt<W: fmt::Write>(&self, f: &mut fmt::Formatter<W>) -> fmt::Result {
-        let letter = match self.0 / 256 {
-            1 => "j",
-            2 => "g",
-            3 => "r",
-            4 => "a",
-            5 => "l",
-            _ => "?",
+        let letter = match Kind::try_from(self.0 / 256) {
+            Ok(Kind::Join) => "j",
+            Ok(Kind::Grant) => "g",
+            Ok(Kind::Release) => "r",
+            Ok(Kind::Arrive) => "a",
+            Ok(Kind::Leave) => "l",
+            Err(_) => "?",
         };
         f.write_str(letter)?;
         f.write(self.0 % 256)

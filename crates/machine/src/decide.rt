@@ -13,6 +13,7 @@ use ticket::Ticket;
 use tree::Tree;
 use turns::{Played, play};
 
+// The machine is an enum, and each case makes its own loop of the generic one: no table of functions.
 fn play_named(trial: Trial<'_>, events: &mut [u16]) -> Played
     requires { 2 * length trial.schedule.now ≤ length events.old }
     ensures { PlayedIs (machine trial.entry.settings.algo) (settings_of trial.entry.settings) trial.entry.schedule.now events.old events.new result }

@@ -7,7 +7,7 @@ use settings::Settings;
 use turns::{Kind, Machine, Processor, Says, State, Step};
 
 // tail, each processor's next and locked, and what it keeps for itself: pred and succ. The state is copied at every turn, so it is packed,
-// in rows and no row of structs (DECISIONS 22): in tail and next, nil is 0 and processor q is q + 1; in locked, true is 1.
+// in rows and no row of structs (DECISIONS 22): in tail and next, nil is 0 and processor q is q + 1; in locked, true is 1: the rules' numbers.
 #[derive(Clone, Copy)]
 pub struct Mcs {
     tail: u16,

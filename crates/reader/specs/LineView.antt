@@ -2,10 +2,11 @@
 use Rattle.rules.specs.Settings.{Settings, zeros}
 use Rattle.rules.specs.Rule.{Rule, ◌>>=◌, give}
 use Rattle.rules.specs.File.{Front, rows, settings}
+use Rattle.settings.specs.Numbers.{algo_number}
 use Rattle.reader.specs.declared.head.Head.{Head}
 
 abbrev pub head_of : Head → Front
-head_of h = record { algo = h.algo; procs = h.procs; home = h.home; ticket = h.ticket; budget = h.budget }
+head_of h = record { algo = algo_number h.algo; procs = h.procs; home = h.home; ticket = h.ticket; budget = h.budget }
 
 -- the settings, after the processors' lines
 abbrev pub lined : Front → Rule Settings

@@ -18,7 +18,7 @@ pub(crate) fn front(p: Place<'_>) -> Result<(Head, Place<'_>), Fault>
     let (ticket, p) = p.field(b"ticket=", 0, MOST_TICKET as usize)?;
     let (budget, p) = p.field(b"budget=", 0, MOST_BUDGET as usize)?;
     let head = Head {
-        algo: algo.into(),
+        algo,
         procs: procs as u16,
         home: home as u16,
         ticket: ticket as u32,

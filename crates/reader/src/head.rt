@@ -2,9 +2,11 @@
 ghost use Rattle.std.specs.Prelude.{◌≤◌};
 ghost use Rattle.rules.specs.Bounds.{most_procs};
 
+use settings::Algo;
+
 #[derive(Clone, Copy)]
 pub(crate) struct Head {
-    pub(crate) algo: u16,
+    pub(crate) algo: Algo,
     pub(crate) procs: u16,
     pub(crate) home: u16,
     pub(crate) ticket: u32,

@@ -38,6 +38,7 @@ fn entries(p: Place<'_>, i: usize) -> Result<((u16, u16), Place<'_>), Fault>
 pub(crate) fn lines(first: Place<'_>, h: Head) -> Result<(Settings, Place<'_>), Fault>
     ensures { got_of settings_of result ≡ lined (head_of h) first.entry.rest.now first.entry.at }
 {
+    // By their index: of two rows that are changed together std's contracts know no more than their lengths.
     let mut rounds = [0; MOST_PROCS];
     let mut hold = [0; MOST_PROCS];
     let mut p = first;
@@ -48,7 +49,7 @@ pub(crate) fn lines(first: Place<'_>, h: Head) -> Result<(Settings, Place<'_>), 
         p = after;
     }
     let settings = Settings {
-        algo: h.algo,
+        algo: h.algo.into(),
         procs: h.procs,
         home: h.home,
         ticket: h.ticket,

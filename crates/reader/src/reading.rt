@@ -22,6 +22,7 @@ pub fn read(file: &[u8], schedule: &mut [u16]) -> Result<Reading, Fault>
     let (head, p) = front(Place::start(file))?;
     let (settings, p) = lines(p, head)?;
     let p = p.label(b"turns=")?;
+    // A row of the reader's own, and no Vec: document 01 has no refusal for want of memory.
     let mut kept = [0; MOST_TURNS];
     let (count, p) = gather(p, head.procs as usize, &mut kept)?;
     p.end()?;

@@ -1,6 +1,7 @@
 -- The name of a machine, found among the machines' names as the rules find it in their table.
 use Rattle.std.proofs.Common.{◌≡◌, ℕ, Bool, true, false, cond, nat_eq, List, [], ◌∷◌, ◌&&◌, Option, Some, None, refl, sym, ap, ◌∙◌}
 use lib.Pointwise.{pointwise}
+use Rattle.std.proofs.lemmas.Iterator.Adapters.{option_map_id}
 use Rattle.std.specs.List as std
 use Rattle.std.specs.Option.{option_map}
 use Rattle.rules.specs.Memory.{pick}
@@ -46,10 +47,6 @@ tells false false false true e = refl
 tells false false false false true = refl
 tells false false false false false = refl
 
-itself : (r : Option Algo) → option_map (λ x. x) r ≡ r
-itself None = refl
-itself (Some a) = refl
-
 said : (name : List ℕ) (r : Option Algo) → Tells (named name).number r → Named name r
 said name None h = h
 said name (Some a) h = h
@@ -59,7 +56,7 @@ pub named_by : (name : List ℕ) (r : Option Algo)
     → Named name r
 unfolding algo_name
 named_by name r h =
-    let e : r ≡ first (pointwise nat_eq name (bytes "ticket")) (pointwise nat_eq name (bytes "mcs")) (pointwise nat_eq name (bytes "central")) (pointwise nat_eq name (bytes "dissem")) (pointwise nat_eq name (bytes "tree")) = sym (itself r) ∙ h in
+    let e : r ≡ first (pointwise nat_eq name (bytes "ticket")) (pointwise nat_eq name (bytes "mcs")) (pointwise nat_eq name (bytes "central")) (pointwise nat_eq name (bytes "dissem")) (pointwise nat_eq name (bytes "tree")) = sym (option_map_id r) ∙ h in
     let f : Tells (named name).number r =
     rw (e, same_text name (bytes "ticket"), same_text name (bytes "mcs"), same_text name (bytes "central"), same_text name (bytes "dissem"), same_text name (bytes "tree"))
     (tells (same name (bytes "ticket")) (same name (bytes "mcs")) (same name (bytes "central")) (same name (bytes "dissem")) (same name (bytes "tree"))) in

@@ -27,6 +27,7 @@ fn in_row(row: [u16; MOST_PROCS], procs: u16, most: u16) -> bool
 fn in_range(s: Settings) -> bool
     ensures { result ≡ in_range (settings_of s) }
 {
+    // In a row, as the rules have them: one that fails is enough.
     let tests = [
         LEAST_PROCS <= s.procs,
         (s.procs as usize) <= MOST_PROCS,
@@ -46,7 +47,7 @@ fn all_below(procs: u16, schedule: &[u16]) -> bool
     schedule.iter().all(|&w| w < procs)
 }
 
-// The settings and the schedule, in order; or the refusal, in the order 2, 3, 5, 4. Whether there is room is the caller's to judge.
+// Of any settings and any schedule: the settings and the schedule, in order; or the refusal, in the order 2, 3, 5, 4. Whether there is room is the caller's to judge.
 #[tactic(auto, using(crate::proofs::Checks::numbers))]
 pub fn checked(s: Settings, schedule: &[u16]) -> Result<Trial<'_>, Refusal>
     ensures { Checked s schedule.now result }

@@ -24,7 +24,7 @@ pub enum Due {
     Step(u8),
 }
 
-// A step is below it: whoever names a step does so by a literal.
+// A step is below it: the figures have ten at most, and whoever names one knows which.
 const HOLDS: u8 = 128;
 
 // The step as it stands in the row, with this many hold turns before it.

@@ -17,5 +17,5 @@ pub use machine::{Machine, State};
 pub use played::{Played, Stop};
 pub use playing::play;
 pub use processor::Processor;
-pub use says::{Kind, Says};
+pub use says::{Kind, Says, UnknownKind};
 pub use step::Step;

@@ -2,7 +2,7 @@
 ghost use Rattle.std.specs.Prelude.{◌≡◌, ◌+◌, ◌*◌};
 ghost use Rattle.rules.specs.Step.{number};
 ghost use Rattle.rules.specs.Course.{begins, holding};
-ghost use Rattle.turns.specs.Saying.{kind_of, says_of};
+ghost use Rattle.turns.specs.Saying.{kind_of, says_of, Numbered};
 
 // The kinds of events, with their numbers.
 #[derive(Clone, Copy, Debug, PartialEq, Eq)]
@@ -13,6 +13,10 @@ pub enum Kind {
     Arrive = 4,
     Leave = 5,
 }
+
+// A number that no kind has.
+#[derive(Clone, Copy, Debug, PartialEq, Eq)]
+pub struct UnknownKind(pub u16);
 
 // Nothing, one event, or two in this order.
 #[derive(Clone, Copy, Debug, PartialEq, Eq)]
@@ -27,6 +31,23 @@ impl From<Kind> for u16 {
 
     fn from(k: Kind) -> u16 {
         k as u16
+    }
+}
+
+impl TryFrom<u16> for Kind {
+    type Error = UnknownKind;
+
+    ghost try_from_gives = { Numbered };
+
+    fn try_from(number: u16) -> Result<Kind, UnknownKind> {
+        match number {
+            1 => Ok(Kind::Join),
+            2 => Ok(Kind::Grant),
+            3 => Ok(Kind::Release),
+            4 => Ok(Kind::Arrive),
+            5 => Ok(Kind::Leave),
+            _ => Err(UnknownKind(number)),
+        }
     }
 }
 

@@ -48,7 +48,7 @@ fn put_turns<S: Sink>(sink: &mut S, turns: &[u16])
     sink.number(*last as usize, b'\n');
 }
 
-// The whole file.
+// The whole file. Of the parts of a trial and not of a trial: so the search finds all that is to be proved.
 #[tactic(auto, unfolding(rules::specs::File::text, settings::specs::Numbers::algo_name))]
 pub(crate) fn put_file<S: Sink>(sink: &mut S, algo: Algo, s: Settings, schedule: &[u16])
     requires algo { s.algo ≡ algo_number algo }

@@ -1,4 +1,4 @@
-// Puts the bytes into a lent buffer, from a place on.
+// Puts the bytes into a lent buffer, from a place on: a cursor whose promise is the buffer, whole.
 ghost use Rattle.writer.specs.SinkView.{pen_room, pen_put};
 ghost use Rattle.writer.specs.Kept.{pen_laws};
 
