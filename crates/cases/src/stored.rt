@@ -28,7 +28,7 @@ pub fn stored_settings(given: &mut Given<'_>) -> Settings {
     }
 }
 
-// Puts the turns into the first places of a lent row, and answers these. Where no number is to be said over and over, it is the next one.
+// Fills a lent row, and answers as many of its first places as there are turns. Where no number is to be said over and over, it is the next one.
 pub fn stored_turns<'a>(given: &mut Given<'_>, schedule: &'a mut [u16; TURNS]) -> &'a [u16] {
     let turns = given.size().min(TURNS);
     let count = given.size();

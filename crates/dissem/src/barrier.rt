@@ -9,7 +9,7 @@ use settings::Settings;
 use turns::{Kind, Machine, Processor, Says, State, Step, bit, with_bit};
 
 // flags: of each processor its flags, variable v as bit v. levels: R. own: of each processor its round * 4 + parity * 2 + sense, in one number,
-// since a step copies the row that it changes.
+// since a step copies the row that it changes; true is 1, as in the rules.
 // levels stands between the rows: the compiler then copies only the one that a step changes. For the same reason a row that is read has a
 // name of its own.
 #[derive(Clone, Copy)]

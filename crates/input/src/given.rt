@@ -36,7 +36,7 @@ impl<'a> Given<'a> {
         taken
     }
 
-    // The next number.
+    // The next number: five columns, and so five digits at most.
     pub fn number(&mut self) -> u32
         ensures bound { result ≤ 99999 }
         ensures left { self.new.left.now ≡ drop WIDTH self.old.left.now }

@@ -14,7 +14,7 @@ pub struct Record {
 }
 
 impl Record {
-    // Of processor i's six numbers.
+    // Of processor i's six numbers, by their place: of pieces that go beside a table that is written std's contracts know the lengths only.
     fn of(sums: &[u16], i: usize) -> Record
         requires { i * numbers + 5 < length sums.now }
         ensures { record_of result ≡ record_at sums.now i }

@@ -17,7 +17,7 @@ pub struct Mcs {
     succ: [u8; 64],
 }
 
-// The memory with one value stored. A field is no parameter, so each row has a function.
+// The memory with one value stored: the rules' stores, each under its name.
 impl Mcs {
     fn with_tail(self, v: u16) -> Mcs
         ensures { memory_of result ≡ set_tail v (memory_of self) }

@@ -11,7 +11,7 @@ use crate::head::Head;
 use settings::{MOST_HOLD, MOST_PROCS, MOST_ROUNDS, Settings};
 use tokens::{Fault, Place};
 
-// `p`, the processor's number and `=`.
+// `p`, the processor's number and `=`. A number has two digits at most.
 #[tactic(auto, using(crate::proofs::Lining::labels))]
 fn line_label(p: Place<'_>, i: usize) -> Result<Place<'_>, Fault>
     requires { i < most_procs }

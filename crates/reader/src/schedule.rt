@@ -7,7 +7,7 @@ ghost use Rattle.tokens.specs.TokenView.{got_of};
 use settings::Refusal;
 use tokens::{Fault, Place};
 
-// How many turns there are; the turns go to a row of the reader's own. For one turn, too many comes before a stray processor.
+// Of procs at most 64, which the head knows. How many turns there are; the turns go to a row of the reader's own. For one turn, too many comes before a stray processor.
 #[tactic(auto, using(crate::proofs::Passing::gathers))]
 pub(crate) fn gather<'a>(
     first: Place<'a>,

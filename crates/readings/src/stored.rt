@@ -48,7 +48,7 @@ impl Parts {
     }
 }
 
-// Puts the file into the first places of lent bytes, and answers these. A byte past the end of the input is 0.
+// Fills lent bytes, and answers those that are the file. A byte past the end of the input is 0.
 pub fn stored_file<'a>(given: &mut Given<'_>, file: &'a mut [u8; MOST_LENGTH]) -> &'a [u8] {
     let parts = Parts {
         head: given.size(),

@@ -27,7 +27,7 @@ fn in_row(row: [u16; MOST_PROCS], procs: u16, most: u16) -> bool
 fn in_range(s: Settings) -> bool
     ensures { result ≡ in_range (settings_of s) }
 {
-    // In a row, as the rules have them: one that fails is enough.
+    // In a row, as the rules have them; with `&&` the proof did not close.
     let tests = [
         LEAST_PROCS <= s.procs,
         (s.procs as usize) <= MOST_PROCS,

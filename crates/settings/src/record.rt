@@ -1,8 +1,8 @@
 // The settings record.
 use crate::bounds::MOST_PROCS;
 
-// The types are wider than the bounds, and algo is a number and no Algo, so that every refusal can be given. rounds and hold are document 01's
-// entries for each processor.
+// The types are wider than the bounds, and algo is a number and no Algo, so that every refusal can be given. rounds and hold are two
+// rows, as the rules have them.
 #[derive(Clone, Copy, Debug, PartialEq, Eq)]
 pub struct Settings {
     pub algo: u16,

@@ -23,7 +23,7 @@ const WAKES_LEFT: u8 = 9;
 const WAKES_RIGHT: u8 = 10;
 
 // A processor's variables are the bits of its word: the sense that wakes it, its own sense, and from FLAGS on the children that have told, by slot.
-// Steps 2 to 5 read the flags that are bits 2 to 5.
+// Steps 2 to 5 read the flags that are bits 2 to 5. True is 1, as in the rules.
 const WAKE: u8 = 0;
 
 const SENSE: u8 = 1;

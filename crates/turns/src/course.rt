@@ -24,7 +24,7 @@ pub enum Due {
     Step(u8),
 }
 
-// A step is below it: the figures have ten at most, and whoever names one knows which.
+// A step is below it: there are ten at most, and whoever names one knows which. One row then tells what a turn is (DECISIONS 20).
 const HOLDS: u8 = 128;
 
 // The step as it stands in the row, with this many hold turns before it.

@@ -5,7 +5,7 @@ ghost use Rattle.turns.specs.View.{course_of};
 use crate::course::Course;
 use crate::processor::Processor;
 
-// at: the step by its number in the rules, as document 01 numbers them; each machine has a match on it, which reads as the figure does.
+// at: the step by its number in the rules (those of mcs are document 01's); each machine has a match on it, which reads as the figure does.
 // Processor w's next turn is no hold turn and not idle: it is the step at this place of its program. hold: how many hold turns follow a grant or a leaving.
 #[derive(Clone, Copy)]
 pub struct Step {

@@ -21,7 +21,7 @@ fn put_entries<S: Sink>(sink: &mut S, i: usize, rounds: u16, hold: u16)
     sink.number(hold as usize, b'\n');
 }
 
-// The processors' lines.
+// The processors' lines, of 64 at most.
 fn put_rows<S: Sink>(sink: &mut S, s: Settings)
     requires procs { s.procs ≤ most_procs }
     requires room { length (rows_text s.procs 0 s.rounds s.hold) < S.room sink.old }
