@@ -9,7 +9,7 @@ use Rattle.rules.specs.Memory.{pick}
 use Rattle.rules.specs.Bounds.{most_turns}
 use Rattle.rules.specs.Settings as rules
 use Rattle.rules.specs.Machines.{numbered, known}
-use Rattle.rules.specs.Calls.{all, in_row, in_range, all_below, refusal}
+use Rattle.rules.specs.Calls.{in_row, in_range, all_below, refusal}
 use Rattle.settings.specs.Numbers.{algo_number, refusal_number}
 use Rattle.settings.specs.View.{settings_of}
 use Rattle.settings.specs.declared.algo.Algo.{Algo}
@@ -39,12 +39,6 @@ pub rows : (procs most i : ℕ) (row : List ℕ) → list_all (fits procs most) 
 unfolding in_row
 rows procs most i [] = refl
 rows procs most i (x ∷ row) = ap (λ r. fits procs most (i, x) && r) (rows procs most (i + 1) row)
-
--- ---- the settings
-
-pub tests : (l : List Bool) → list_all (λ b. b) l ≡ all l
-tests [] = refl
-tests (b ∷ l) = ap (λ r. b && r) (tests l)
 
 -- ---- the number of refusal
 
