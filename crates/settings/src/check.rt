@@ -16,11 +16,8 @@ use crate::trial::Trial;
 fn in_row(row: [u16; MOST_PROCS], procs: u16, most: u16) -> bool
     ensures { result ≡ in_row procs most 0 row }
 {
-    row.iter().enumerate().all(|(i, &x)| if i < procs as usize {
-        x <= most
-    } else {
-        x == 0
-    })
+    let (below, past) = row.split_at((procs as usize).min(MOST_PROCS));
+    below.iter().all(|&x| x <= most) && past.iter().all(|&x| x == 0)
 }
 
 // Whether every setting but algo is within its bounds.
