@@ -3,4 +3,5 @@ mod Turns
 mod Rows
 mod Short
 mod Writes
+pub mod Digits
 pub mod OneOutcome

@@ -22,4 +22,19 @@ impl Sink for Pen<'_> {
         self.out[self.at..end].copy_from_slice(text);
         self.at = end;
     }
+
+    fn byte(&mut self, byte: u8) {
+        self.out[self.at] = byte;
+        self.at += 1;
+    }
+
+    // Digit by digit, as the rules have a number. Its depth is the number of digits.
+    fn digits(&mut self, n: usize) {
+        if n < 10 {
+            self.byte(b'0' + (n as u8));
+            return;
+        }
+        self.digits(n / 10);
+        self.byte(b'0' + ((n % 10) as u8));
+    }
 }
