@@ -1,4 +1,6 @@
 // Puts the bytes into a lent buffer, from a place on: a cursor whose promise is the buffer, whole.
+ghost use Rattle.std.specs.Prelude.{◌≡◌, ◌≤◌, ◌<◌, length};
+ghost use Rattle.rules.specs.File.{decimal};
 ghost use Rattle.writer.specs.SinkView.{pen_room, pen_put};
 ghost use Rattle.writer.specs.Kept.{pen_laws};
 
@@ -28,13 +30,26 @@ impl Sink for Pen<'_> {
         self.at += 1;
     }
 
-    // Digit by digit, as the rules have a number. Its depth is the number of digits.
     fn digits(&mut self, n: usize) {
         if n < 10 {
             self.byte(b'0' + (n as u8));
-            return;
+        } else {
+            put_long(self, n);
         }
-        self.digits(n / 10);
-        self.byte(b'0' + ((n % 10) as u8));
     }
+}
+
+// Digit by digit, as the rules have a number, the first two at once. Its depth is the number of the others.
+fn put_long(pen: &mut Pen<'_>, n: usize)
+    requires long { 10 ≤ n }
+    requires room { length (decimal n) < pen_room pen.old }
+    ensures { pen.new ≡ pen_put pen.old (decimal n) }
+{
+    if n < 100 {
+        pen.byte(b'0' + ((n / 10) as u8));
+        pen.byte(b'0' + ((n % 10) as u8));
+        return;
+    }
+    put_long(pen, n / 10);
+    pen.byte(b'0' + ((n % 10) as u8));
 }
