@@ -4,4 +4,5 @@ mod Rows
 mod Short
 mod Writes
 pub mod Digits
+pub mod Over
 pub mod OneOutcome

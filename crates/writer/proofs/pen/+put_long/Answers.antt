@@ -1,47 +1,40 @@
 -- There is room for all the digits but the last, and then for the last.
-use Rattle.std.proofs.Common.{◌≡◌, ℕ, ◌+◌, ◌/◌, ◌%◌, ◌≤◌, ◌<◌, [], ◌∷◌, length, ap, sym, ◌∙◌, arith, length-append}
-use Rattle.rules.specs.File.{decimal}
-use Rattle.laws.proofs.Decimal.{decimal_one, decimal_long}
-use Rattle.writer.specs.SinkView.{pen_room, pen_put}
-use Rattle.writer.specs.Kept.{pen_laws}
-use Rattle.writer.specs.declared.pen.Pen.{Pen}
+use Rattle.std.proofs.Common.{arith}
+use Rattle.writer.proofs.Over.{one_more, last_fits, last_done, last_place, first_fits, first_done, first_place}
 use Rattle.writer.proofs.pen.+put_long.Goals as goal
 
-module _ (p : Pen) (n : ℕ) (long : 10 ≤ n) where
-  one_more : length (decimal n) ≡ length (decimal (n / 10)) + 1
-  one_more = ap length (decimal_long n long) ∙ length-append (decimal (n / 10)) _
+pub bounds-out-at : goal.bounds-out-at
+bounds-out-at t c = first_fits _ _ _ c.requires.long c.requires.room c.if-n-lt100.true
 
-  module _ (q : Pen) (e : q ≡ pen_put p (decimal (n / 10))) where
-    last_fits : length (decimal n) < pen_room p → 1 < pen_room q
-    last_fits room = let l = pen_laws.left p (decimal (n / 10)) in rw e (omega (arith, one_more))
+pub bounds-out-at-then-n-lt100 : goal.bounds-out-at-then-n-lt100
+bounds-out-at-then-n-lt100 t c =
+    let l = c.requires.long in
+    let r = c.requires.room in
+    let s = c.if-n-lt100.true in
+    last_fits _ _ _ l r _ _ (first_done _ _ _ l r s) (first_place _ _ _ l r s)
 
-    last_done : (r : Pen) → r ≡ pen_put q ((48 + n % 10) ∷ []) → r ≡ pen_put p (decimal n)
-    last_done r f = f ∙ rw (e, decimal_long n long) (pen_laws.both p (decimal (n / 10)) _)
+pub returns-then-n-lt100-clause-bytes : goal.returns-then-n-lt100-clause-bytes
+returns-then-n-lt100-clause-bytes t c =
+    let l = c.requires.long in
+    let r = c.requires.room in
+    let s = c.if-n-lt100.true in
+    last_done _ _ _ l r _ _ (first_done _ _ _ l r s) (first_place _ _ _ l r s)
 
-first_is : (p q : Pen) (d : ℕ) → d < 10 → q ≡ pen_put p ((48 + d) ∷ []) → q ≡ pen_put p (decimal d)
-first_is p q d h e = rw (decimal_one d h) e
+pub returns-then-n-lt100-clause-end : goal.returns-then-n-lt100-clause-end
+returns-then-n-lt100-clause-end t c =
+    let e = first_place _ _ _ c.requires.long c.requires.room c.if-n-lt100.true in
+    omega (arith, one_more c.args.out.now c.args.at c.args.n c.requires.long)
 
-pub byte-requires : goal.byte-requires
-byte-requires t c =
-    let e = one_more c.args.pen.now c.args.n c.requires.long in
-    let f = ap length (decimal_one (c.args.n / 10) (omega arith)) in
-    omega (arith, c.requires.room)
-
-pub byte-requires-then-n-lt100 : goal.byte-requires-then-n-lt100
-byte-requires-then-n-lt100 t c =
-    last_fits _ c.args.n c.requires.long _ (first_is _ _ (c.args.n / 10) (omega arith) c.byte.ensures) c.requires.room
-
-pub returns-then-n-lt100 : goal.returns-then-n-lt100
-returns-then-n-lt100 t c =
-    last_done _ c.args.n c.requires.long _ (first_is _ _ (c.args.n / 10) (omega arith) c.byte.ensures) _ c.byte-then-n-lt100.ensures
-
-pub put_long-requires : goal.put_long-requires
-put_long-requires t c =
-    let e = one_more c.args.pen.now c.args.n c.requires.long in
+pub put_long-last-requires : goal.put_long-last-requires
+put_long-last-requires t c =
+    let e = one_more c.args.out.now c.args.at c.args.n c.requires.long in
     (omega arith, (omega arith, omega (arith, c.requires.room)))
 
-pub byte-requires-2 : goal.byte-requires-2
-byte-requires-2 t c = last_fits _ c.args.n c.requires.long _ c.put_long.ensures c.requires.room
+pub bounds-out-last : goal.bounds-out-last
+bounds-out-last t c = last_fits _ _ _ c.requires.long c.requires.room _ _ c.put_long-last.ensures.bytes c.put_long-last.ensures.end
 
-pub returns : goal.returns
-returns t c = last_done _ c.args.n c.requires.long _ c.put_long.ensures _ c.byte-2.ensures
+pub returns-clause-bytes : goal.returns-clause-bytes
+returns-clause-bytes t c = last_done _ _ _ c.requires.long c.requires.room _ _ c.put_long-last.ensures.bytes c.put_long-last.ensures.end
+
+pub returns-clause-end : goal.returns-clause-end
+returns-clause-end t c = last_place _ _ _ c.requires.long c.requires.room _ _ c.put_long-last.ensures.bytes c.put_long-last.ensures.end
