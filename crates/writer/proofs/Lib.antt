@@ -1,8 +1,8 @@
 mod Left
+mod Digits
+mod Over
 mod Turns
 mod Rows
 mod Short
 mod Writes
-pub mod Digits
-pub mod Over
 pub mod OneOutcome
