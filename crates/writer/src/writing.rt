@@ -13,7 +13,7 @@ fn file_length(trial: Trial<'_>) -> usize
     ensures { result ≡ length (text (settings_of trial.entry.settings) trial.entry.schedule.now) }
 {
     let mut count = Count { bytes: 0 };
-    put_file(&mut count, trial.algo, trial.settings, trial.schedule);
+    put_file(&mut count, trial.algo, &trial.settings, trial.schedule);
     count.bytes
 }
 
@@ -27,6 +27,6 @@ pub fn write(s: Settings, schedule: &[u16], out: &mut [u8]) -> Result<usize, Ref
         return Err(Refusal::TooShort);
     }
     let mut pen = Pen { out, at: 0 };
-    put_file(&mut pen, trial.algo, trial.settings, trial.schedule);
+    put_file(&mut pen, trial.algo, &trial.settings, trial.schedule);
     Ok(pen.at)
 }
