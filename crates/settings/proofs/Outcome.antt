@@ -92,8 +92,8 @@ some_algo Tree e = omega arith
 
 pub one_machine : (n : ℕ) (r q : Result Algo Refusal) → Numbered n r → Numbered n q → r ≡ q
 one_machine n (Ok a) (Ok b) x y = ap Ok (same_algo a b (sym x ∙ y))
-one_machine n (Ok a) (Err q) x y = absurd (true≢false (sym (rw x (known_algo a)) ∙ y.1))
-one_machine n (Err p) (Ok b) x y = absurd (true≢false (sym (rw y (known_algo b)) ∙ x.1))
+one_machine n (Ok a) (Err q) x y = let k : known (numbered n) ≡ true = rw x (known_algo a) in absurd (true≢false (sym k ∙ y.1))
+one_machine n (Err p) (Ok b) x y = let k : known (numbered n) ≡ true = rw y (known_algo b) in absurd (true≢false (sym k ∙ x.1))
 one_machine n (Err p) (Err q) x y = ap Err (x.0 ∙ sym y.0)
 
 pub one_name : (name : List ℕ) (r q : Option Algo) → Named name r → Named name q → r ≡ q
