@@ -9,7 +9,6 @@ use input::{Given, WIDTH, read_full};
 use lines::Run;
 use machine::{Record, Tallied, tallies};
 use settings::MOST_PROCS;
-use std::io;
 use stored::{TURNS, stored_settings, stored_turns};
 
 const MOST_BYTES: usize = 300000;
@@ -27,26 +26,25 @@ const MARKED: Record = Record {
     idle: MARK,
 };
 
-// The records and events that had to be written are printed; the rest had to stay.
-fn show(rt: &impl Print, t: Tallied, procs: usize, events: &[u16]) -> io::Result<()> {
+// The records and events that had to be written are printed; the rest had to stay. What cannot be printed is left out.
+fn show(rt: &impl Print, t: Tallied, procs: usize, events: &[u16]) {
     let (records, written) = t.answer.map_or((0, 0), |answer| (procs, answer.events));
     let (table, other_records) = t.table.split_at(records.min(MOST_PROCS));
     let (events, other_events) = events.split_at(written.min(events.len()));
-    match t.answer {
+    let _ = match t.answer {
         Ok(answer) => rt.print(Run {
             answer,
             table,
             events,
-        })?,
-        Err(refusal) => println!(rt; "refused={}", u8::from(refusal))?,
-    }
+        }),
+        Err(refusal) => println!(rt; "refused={}", u8::from(refusal)),
+    };
     if other_records.iter().any(|r| *r != MARKED) || other_events.iter().any(|e| *e != MARK) {
-        println!(rt; "touched")?;
+        let _ = println!(rt; "touched");
     }
-    Ok(())
 }
 
-fn play(rt: &impl Print, given: &mut Given<'_>) -> io::Result<()> {
+fn play(rt: &impl Print, given: &mut Given<'_>) {
     let mut schedule = [0u16; TURNS];
     let mut events = [MARK; ROOM];
     let room = given.size().min(ROOM);
@@ -55,21 +53,15 @@ fn play(rt: &impl Print, given: &mut Given<'_>) -> io::Result<()> {
     let schedule = stored_turns(given, &mut schedule);
     let events = &mut events[..room];
     let t = tallies(settings, schedule, events, [MARKED; MOST_PROCS], records);
-    show(rt, t, settings.procs as usize, events)
+    show(rt, t, settings.procs as usize, events);
 }
 
-fn play_all(rt: &impl Print, given: &mut Given<'_>) -> io::Result<()> {
-    for k in 0..given.size() {
-        println!(rt; "case={k}")?;
-        play(rt, given)?;
-    }
-    Ok(())
-}
-
-// What cannot be printed is left out.
 fn main(rt: HostRuntime) {
     let mut input = [0u8; MOST_BYTES];
     let input = read_full(&rt, &mut input);
     let mut given = Given::new(&input[..input.len() / WIDTH * WIDTH]);
-    let _ = play_all(&rt, &mut given);
+    for k in 0..given.size() {
+        let _ = println!(rt; "case={k}");
+        play(&rt, &mut given);
+    }
 }

@@ -34,9 +34,10 @@ pub fn stored_turns<'a>(given: &mut Given<'_>, schedule: &'a mut [u16; TURNS]) -
     let count = given.size();
     let said = given.left;
     given.bytes(count * WIDTH);
+    let schedule = &mut schedule[..turns];
     for (k, turn) in schedule.iter_mut().enumerate() {
         let at = k % count.max(1) * WIDTH;
         *turn = Given::new(said.get(at..).unwrap_or(b"")).small();
     }
-    &schedule[..turns]
+    schedule
 }

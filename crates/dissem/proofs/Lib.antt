@@ -1,2 +1,3 @@
+pub mod DissemFlags
 pub mod DissemRounds
 pub mod DissemStates

@@ -58,8 +58,9 @@ pub fn stored_file<'a>(given: &mut Given<'_>, file: &'a mut [u8; MOST_LENGTH]) -
     };
     let stored = given.left;
     given.bytes(parts.stored());
+    let file = &mut file[..parts.length()];
     for (k, byte) in file.iter_mut().enumerate() {
         *byte = stored.get(parts.source(k)).copied().unwrap_or(0);
     }
-    &file[..parts.length()]
+    file
 }

@@ -1,15 +1,14 @@
 -- One law for each way out of the checks, and for each function the set of its laws.
 -- le_of_lt, lt_trans and lit< are in a set so that a test that says more than a law asks serves it too.
-use Rattle.std.proofs.Common.{◌≡◌, ℕ, ◌+◌, ◌≤◌, ◌<◌, Bool, true, false, ◌&&◌, List, [], ◌∷◌, length, eqb, leb, ltb, refl, sym, ap, ◌∙◌, arith, Result, Ok, Err, eq-eqb, ne_eqb, le-leb, lt-ltb, le-ltb}
+use Rattle.std.proofs.Common.{◌≡◌, ℕ, ◌+◌, ◌≤◌, ◌<◌, Bool, true, false, ◌&&◌, List, [], ◌∷◌, ◌++◌, length, eqb, leb, ltb, refl, sym, ap, ◌∙◌, arith, add-zero, Result, Ok, Err, eq-eqb, ne_eqb, le-leb, lt-ltb, le-ltb}
 use Rattle.std.proofs.lemmas.Bool.{lt-leb, not-true, not-false}
 use native.Mathlib.Nat.{le_of_lt, lt_trans}
 use lib.Dec.{lit<}
-use Rattle.std.specs.List.{list_all, enumerate_from}
-use Rattle.rules.specs.Memory.{pick}
+use Rattle.std.specs.List.{list_all}
 use Rattle.rules.specs.Bounds.{most_turns}
 use Rattle.rules.specs.Settings as rules
 use Rattle.rules.specs.Machines.{numbered, known}
-use Rattle.rules.specs.Calls.{all, in_row, in_range, all_below, refusal}
+use Rattle.rules.specs.Calls.{in_row, in_range, all_below, refusal}
 use Rattle.settings.specs.Numbers.{algo_number, refusal_number}
 use Rattle.settings.specs.View.{settings_of}
 use Rattle.settings.specs.declared.algo.Algo.{Algo}
@@ -30,21 +29,29 @@ named_known algo.Tree = refl
 pub known_one : {n : ℕ} (a : Algo) → n ≡ algo_number a → known (numbered n) ≡ true
 known_one a e = ap (λ n. known (numbered n)) e ∙ named_known a
 
--- ---- a row: the test of each entry with its place
+-- ---- a row: the entries below procs, and those past them
 
-abbrev pub fits : ℕ → ℕ → ℕ × ℕ → Bool
-fits procs most p = pick (ltb p.0 procs) (leb p.1 most) (eqb p.1 0)
-
-pub rows : (procs most i : ℕ) (row : List ℕ) → list_all (fits procs most) (enumerate_from i row) ≡ in_row procs most i row
+past_in_row : (procs most i : ℕ) → procs ≤ i → (past : List ℕ) → list_all (λ x. eqb x 0) past ≡ in_row procs most i past
 unfolding in_row
-rows procs most i [] = refl
-rows procs most i (x ∷ row) = ap (λ r. fits procs most (i, x) && r) (rows procs most (i + 1) row)
+past_in_row procs most i h [] = refl
+past_in_row procs most i h (x ∷ past) = rw (le-ltb _ _ h) (ap (λ r. eqb x 0 && r) (past_in_row procs most (i + 1) (omega arith) past))
 
--- ---- the settings
+and_then : (a b c : Bool) → ((a && b) && c) ≡ (a && (b && c))
+and_then true b c = refl
+and_then false b c = refl
 
-pub tests : (l : List Bool) → list_all (λ b. b) l ≡ all l
-tests [] = refl
-tests (b ∷ l) = ap (λ r. b && r) (tests l)
+parts_in_row : (procs most i : ℕ) (below past : List ℕ) → i + length below ≤ procs → (0 < length past → procs ≤ i + length below)
+    → (list_all (λ x. leb x most) below && list_all (λ x. eqb x 0) past) ≡ in_row procs most i (below ++ past)
+unfolding in_row
+parts_in_row procs most i [] [] h k = refl
+parts_in_row procs most i [] (x ∷ past) h k = let q : procs ≤ i = simp add-zero at (k (omega arith)) in past_in_row procs most i q (x ∷ past)
+parts_in_row procs most i (x ∷ below) past h k =
+    and_then (leb x most) _ _
+    ∙ rw (lt-ltb i procs (omega arith)) (ap (λ r. leb x most && r) (parts_in_row procs most (i + 1) below past (omega arith) (λ p. omega arith)))
+
+pub row_parts : (procs most : ℕ) (row below past : List ℕ) → row ≡ below ++ past → length below ≤ procs → (0 < length past → procs ≤ length below)
+    → (list_all (λ x. leb x most) below && list_all (λ x. eqb x 0) past) ≡ in_row procs most 0 row
+row_parts procs most row below past e h k = rw e (parts_in_row procs most 0 below past (omega arith) (λ p. omega arith))
 
 -- ---- the number of refusal
 

@@ -1,6 +1,7 @@
 -- The check has one outcome.
-use Rattle.std.proofs.Common.{◌≡◌, ℕ, zero, suc, List, Result, Ok, Err, refl, ap, sym, ◌∙◌, arith}
-use Rattle.settings.specs.Numbers.{algo_number, refusal_number}
+use Rattle.std.proofs.Common.{◌≡◌, ℕ, zero, suc, List, Result, Ok, Err, Option, Some, None, true, true≢false, refl, ap, sym, ◌∙◌, arith}
+use Rattle.rules.specs.Machines.{numbered, known}
+use Rattle.settings.specs.Numbers.{algo_number, refusal_number, Numbered, Named}
 use Rattle.settings.specs.Check.{Checked}
 use Rattle.settings.specs.declared.trial.Trial.{Trial}
 use Rattle.settings.specs.declared.algo.Algo.{Algo}
@@ -72,3 +73,31 @@ one_outcome s t (Ok a) (Ok b) c c' =
 one_outcome s t (Ok a) (Err q) c c' = refused q (c'.number ∙ sym c.number)
 one_outcome s t (Err p) (Ok b) c c' = refused p (c.number ∙ sym c'.number)
 one_outcome s t (Err p) (Err q) c c' = same_refusal p q (c.number ∙ sym c'.number)
+
+-- ---- `Algo::try_from` and `Algo::named`
+
+known_algo : (a : Algo) → known (numbered (algo_number a)) ≡ true
+known_algo Ticket = refl
+known_algo Mcs = refl
+known_algo Central = refl
+known_algo Dissem = refl
+known_algo Tree = refl
+
+some_algo : (a : Algo) → algo_number a ≡ 0 → ⊥
+some_algo Ticket e = omega arith
+some_algo Mcs e = omega arith
+some_algo Central e = omega arith
+some_algo Dissem e = omega arith
+some_algo Tree e = omega arith
+
+pub one_machine : (n : ℕ) (r q : Result Algo Refusal) → Numbered n r → Numbered n q → r ≡ q
+one_machine n (Ok a) (Ok b) x y = ap Ok (same_algo a b (sym x ∙ y))
+one_machine n (Ok a) (Err q) x y = let k : known (numbered n) ≡ true = rw x (known_algo a) in absurd (true≢false (sym k ∙ y.1))
+one_machine n (Err p) (Ok b) x y = let k : known (numbered n) ≡ true = rw y (known_algo b) in absurd (true≢false (sym k ∙ x.1))
+one_machine n (Err p) (Err q) x y = ap Err (x.0 ∙ sym y.0)
+
+pub one_name : (name : List ℕ) (r q : Option Algo) → Named name r → Named name q → r ≡ q
+one_name name (Some a) (Some b) x y = ap Some (same_algo a b (sym x ∙ y))
+one_name name (Some a) None x y = absurd (some_algo a (sym x ∙ y))
+one_name name None (Some b) x y = absurd (some_algo b (sym y ∙ x))
+one_name name None None x y = refl

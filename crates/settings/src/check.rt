@@ -16,28 +16,22 @@ use crate::trial::Trial;
 fn in_row(row: [u16; MOST_PROCS], procs: u16, most: u16) -> bool
     ensures { result ≡ in_row procs most 0 row }
 {
-    row.iter().enumerate().all(|(i, &x)| if i < procs as usize {
-        x <= most
-    } else {
-        x == 0
-    })
+    let (below, past) = row.split_at((procs as usize).min(MOST_PROCS));
+    below.iter().all(|&x| x <= most) && past.iter().all(|&x| x == 0)
 }
 
 // Whether every setting but algo is within its bounds.
+#[tactic(auto, unfolding(rules::specs::Calls::in_range))]
 fn in_range(s: Settings) -> bool
     ensures { result ≡ in_range (settings_of s) }
 {
-    // In a row, as the rules have them; with `&&` the proof did not close.
-    let tests = [
-        LEAST_PROCS <= s.procs,
-        (s.procs as usize) <= MOST_PROCS,
-        s.home < s.procs,
-        s.ticket <= MOST_TICKET,
-        s.budget <= MOST_BUDGET,
-        in_row(s.rounds, s.procs, MOST_ROUNDS),
-        in_row(s.hold, s.procs, MOST_HOLD),
-    ];
-    tests.iter().all(|&passed| passed)
+    LEAST_PROCS <= s.procs
+        && (s.procs as usize) <= MOST_PROCS
+        && s.home < s.procs
+        && s.ticket <= MOST_TICKET
+        && s.budget <= MOST_BUDGET
+        && in_row(s.rounds, s.procs, MOST_ROUNDS)
+        && in_row(s.hold, s.procs, MOST_HOLD)
 }
 
 // Whether every turn names a processor below procs.

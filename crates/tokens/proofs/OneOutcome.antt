@@ -1,11 +1,12 @@
 -- What is read at a place has one outcome: the promises name the value, the bytes that are left and their place, or the fault, and leave no choice.
-use Rattle.std.proofs.Common.{◌≡◌, Result, Ok, Err, sym, ◌∙◌}
+use Rattle.std.proofs.Common.{◌≡◌, ℕ, Result, Ok, Err, sym, ◌∙◌}
 use Rattle.rules.specs.Rule.{Got, fault}
 use Rattle.settings.specs.Numbers.{refusal_number}
 use Rattle.settings.proofs.Outcome.{same_refusal}
 use Rattle.tokens.specs.declared.fault.Fault.{Fault}
+use Rattle.tokens.specs.declared.numbers.Numeral.{Numeral}
 use Rattle.tokens.specs.declared.place.Place.{Place}
-use Rattle.tokens.specs.TokenView.{got_of, place_of}
+use Rattle.tokens.specs.TokenView.{got_of, place_of, numeral_of}
 
 -- two places are the same but for where in memory the bytes are
 abbrev pub SamePlace : Place → Place → Type 0
@@ -38,3 +39,11 @@ one_value f t g (Ok v) (Ok w) x y = let e = x ∙ sym y in (t v.0 w.0 cc, (cc, c
 one_value f t g (Ok v) (Err d) x y = let e = x ∙ sym y in cc
 one_value f t g (Err e) (Ok w) x y = let e = x ∙ sym y in cc
 one_value f t g (Err e) (Err d) x y = one_fault e d (x ∙ sym y)
+
+-- `number`: its value and its separator are the numeral
+same_numeral : (v w : Numeral) → numeral_of v ≡ numeral_of w → v ≡ w
+same_numeral v w e = λ i. record { value = (e i).0; separator = (e i).1 }
+
+pub one_numeral : (g : Got (ℕ × ℕ)) (r q : Result (Numeral × Place) Fault) → got_of numeral_of r ≡ g → got_of numeral_of q ≡ g
+    → Same (λ v w. (v.0 ≡ w.0) × SamePlace v.1 w.1) r q
+one_numeral = one_value numeral_of same_numeral

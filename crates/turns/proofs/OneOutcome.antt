@@ -1,5 +1,5 @@
 -- What a run, the counting of a turn, the kind of a processor's next turn, the end of a step, and a word with a bit changed are to be: the promises leave no choice.
-use Rattle.std.proofs.Common.{◌≡◌, refl, sym, ap, ap₂, ◌∙◌, false, true≢false, ◌&&◌, List, [], ◌∷◌, ℕ, zero, suc, ◌+◌, ◌*◌, ◌/◌, ◌%◌, ◌^◌, ◌≤◌, ◌<◌, arith, eq-eqb, eqb, length, get_or, Bool, true, ltb, lt-ltb, le-ltb}
+use Rattle.std.proofs.Common.{◌≡◌, Result, Ok, Err, refl, sym, ap, ap₂, ◌∙◌, false, true≢false, ◌&&◌, List, [], ◌∷◌, ℕ, zero, suc, ◌+◌, ◌*◌, ◌/◌, ◌%◌, ◌^◌, ◌≤◌, ◌<◌, arith, eq-eqb, eqb, length, get_or, Bool, true, ltb, lt-ltb, le-ltb}
 use native.Mathlib.Decide.{dec_lt}
 use mathlib.Core.Path.{fun_ext}
 use native.Mathlib.Nat.{pow-succ', div-div-eq-div-mul}
@@ -21,10 +21,11 @@ use Rattle.turns.specs.declared.played.Stop.{Stop}
 use Rattle.turns.specs.declared.played.Stop.TheVariants.{UsedUp, Budget}
 use Rattle.turns.specs.declared.says.Kind.{Kind}
 use Rattle.turns.specs.declared.says.Kind.TheVariants.{Join, Grant, Release, Arrive, Leave}
+use Rattle.turns.specs.declared.says.UnknownKind.{UnknownKind}
 use Rattle.turns.specs.declared.says.Says.{Says}
 use Rattle.turns.specs.declared.says.Says.TheVariants.{Nothing, One, Two}
 use Rattle.turns.specs.BitView.{bits}
-use Rattle.turns.specs.Saying.{kind_of}
+use Rattle.turns.specs.Saying.{kind_of, Numbered}
 use Rattle.turns.specs.Stopping.{stop_number}
 use Rattle.turns.specs.View.{holds, steps, lefts, course_of, Dues, is_spun, is_idled, is_over, codes_of, told_of}
 use Rattle.turns.specs.CountView.{numbers, done_of, tally_of, Counted, Noted}
@@ -129,6 +130,27 @@ kind_back Grant = refl
 kind_back Release = refl
 kind_back Arrive = refl
 kind_back Leave = refl
+
+kind_small : (k : Kind) → number (kind_of k) < 6
+kind_small Join = omega arith
+kind_small Grant = omega arith
+kind_small Release = omega arith
+kind_small Arrive = omega arith
+kind_small Leave = omega arith
+
+kind_some : (k : Kind) → 0 < number (kind_of k)
+kind_some Join = omega arith
+kind_some Grant = omega arith
+kind_some Release = omega arith
+kind_some Arrive = omega arith
+kind_some Leave = omega arith
+
+-- the kind of a number
+pub one_kind : (n : ℕ) (r q : Result Kind UnknownKind) → Numbered n r → Numbered n q → r ≡ q
+one_kind n (Ok k) (Ok l) x y = ap Ok (sym (kind_back k) ∙ ap kind_at (sym x ∙ y) ∙ kind_back l)
+one_kind n (Ok k) (Err e) x y = absurd (omega (arith, x, kind_small k, y.1 (rw x (kind_some k))))
+one_kind n (Err e) (Ok k) x y = absurd (omega (arith, y, kind_small k, x.1 (rw y (kind_some k))))
+one_kind n (Err e) (Err f) x y = λ i. Err (record { 0 = (x.0 ∙ sym y.0) i })
 
 same_kind : (w : ℕ) (k l : Kind) → code (event (kind_of k) w) ≡ code (event (kind_of l) w) → k ≡ l
 same_kind w k l e = sym (kind_back k) ∙ ap kind_at (omega (arith, e)) ∙ kind_back l

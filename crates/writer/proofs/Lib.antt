@@ -1,4 +1,6 @@
 mod Left
+mod Digits
+mod Over
 mod Turns
 mod Rows
 mod Short

@@ -43,7 +43,7 @@ module _ (d : List ℕ) (at : ℕ) (t : List ℕ) where
         (rw (← g) (take_at (before ++ t) after _ e), rw (← g) (drop_at (before ++ t) after _ e))
   ]
 
-  both : (u : List ℕ) → over (over d at t) (at + length t) u ≡ over d at (t ++ u)
+  pub both : (u : List ℕ) → over (over d at t) (at + length t) u ≡ over d at (t ++ u)
   both u = rw (parts.0, parts.1) (simp (append_assoc, drop-drop, length-append, add_assoc))
 
 pub pen_laws : SinkLaws pen_room pen_put

@@ -22,10 +22,10 @@ fn put_entries<S: Sink>(sink: &mut S, i: usize, rounds: u16, hold: u16)
 }
 
 // The processors' lines, of 64 at most.
-fn put_rows<S: Sink>(sink: &mut S, s: Settings)
-    requires procs { s.procs ≤ most_procs }
-    requires room { length (rows_text s.procs 0 s.rounds s.hold) < S.room sink.old }
-    ensures { sink.new ≡ S.put sink.old (rows_text s.procs 0 s.rounds s.hold) }
+fn put_rows<S: Sink>(sink: &mut S, s: &Settings)
+    requires procs { s.now.procs ≤ most_procs }
+    requires room { length (rows_text s.now.procs 0 s.now.rounds s.now.hold) < S.room sink.old }
+    ensures { sink.new ≡ S.put sink.old (rows_text s.now.procs 0 s.now.rounds s.now.hold) }
 {
     let entries = s.rounds.iter().zip(s.hold.iter());
     for (i, (&rounds, &hold)) in entries.enumerate().take(s.procs as usize) {
@@ -50,11 +50,11 @@ fn put_turns<S: Sink>(sink: &mut S, turns: &[u16])
 
 // The whole file. Of the parts of a trial and not of a trial: so the search finds all that is to be proved.
 #[tactic(auto, unfolding(rules::specs::File::text, settings::specs::Numbers::algo_name))]
-pub(crate) fn put_file<S: Sink>(sink: &mut S, algo: Algo, s: Settings, schedule: &[u16])
-    requires algo { s.algo ≡ algo_number algo }
-    requires procs { s.procs ≤ most_procs }
-    requires room { length (text (settings_of s) schedule.now) < S.room sink.old }
-    ensures { sink.new ≡ S.put sink.old (text (settings_of s) schedule.now) }
+pub(crate) fn put_file<S: Sink>(sink: &mut S, algo: Algo, s: &Settings, schedule: &[u16])
+    requires algo { s.now.algo ≡ algo_number algo }
+    requires procs { s.now.procs ≤ most_procs }
+    requires room { length (text (settings_of s.now) schedule.now) < S.room sink.old }
+    ensures { sink.new ≡ S.put sink.old (text (settings_of s.now) schedule.now) }
 {
     sink.put(b"algo=");
     sink.put(algo.name());

@@ -14,21 +14,22 @@ pub(crate) trait Sink {
         requires { length text.now < room self.old }
         ensures { self.new ≡ put self.old text.now };
 
-    ghost laws: { SinkLaws room put };
-
-    final fn byte(&mut self, byte: u8)
+    fn byte(&mut self, byte: u8)
         requires { 1 < room self.old }
-        ensures { self.new ≡ put self.old (byte ∷ []) }
-    {
-        self.put(&[byte]);
-    }
+        ensures { self.new ≡ put self.old (byte ∷ []) };
+
+    fn digits(&mut self, n: usize)
+        requires { length (decimal n) < room self.old }
+        ensures { self.new ≡ put self.old (decimal n) };
+
+    ghost laws: { SinkLaws room put };
 
     // A number and its separator.
     final fn number(&mut self, n: usize, separator: u8)
         requires { length (decimal n ++ separator ∷ []) < room self.old }
         ensures { self.new ≡ put self.old (decimal n ++ separator ∷ []) }
     {
-        put_decimal(self, n);
+        self.digits(n);
         self.byte(separator);
     }
 
@@ -40,18 +41,4 @@ pub(crate) trait Sink {
         self.put(label);
         self.number(n, b'\n');
     }
-}
-
-// Digit by digit, as the rules have a number. Its depth is the number of digits.
-#[tactic(auto, using(laws::proofs::Decimal::decimal_one, laws::proofs::Decimal::decimal_long))]
-fn put_decimal<S: Sink>(sink: &mut S, n: usize)
-    requires { length (decimal n) < S.room sink.old }
-    ensures { sink.new ≡ S.put sink.old (decimal n) }
-{
-    if n < 10 {
-        sink.byte(b'0' + (n as u8));
-        return;
-    }
-    put_decimal(sink, n / 10);
-    sink.byte(b'0' + ((n % 10) as u8));
 }

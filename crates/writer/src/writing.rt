@@ -9,11 +9,11 @@ use crate::file::put_file;
 use crate::pen::Pen;
 use settings::{Refusal, Settings, Trial, checked};
 
-fn file_length(trial: Trial<'_>) -> usize
-    ensures { result ≡ length (text (settings_of trial.entry.settings) trial.entry.schedule.now) }
+fn file_length(trial: &Trial<'_>) -> usize
+    ensures { result ≡ length (text (settings_of trial.now.settings) trial.now.schedule.now) }
 {
     let mut count = Count { bytes: 0 };
-    put_file(&mut count, trial.algo, trial.settings, trial.schedule);
+    put_file(&mut count, trial.algo, &trial.settings, trial.schedule);
     count.bytes
 }
 
@@ -23,10 +23,10 @@ pub fn write(s: Settings, schedule: &[u16], out: &mut [u8]) -> Result<usize, Ref
     ensures { WriteIs (settings_of s) schedule.now out.old out.new result }
 {
     let trial = checked(s, schedule)?;
-    if out.len() < file_length(trial) {
+    if out.len() < file_length(&trial) {
         return Err(Refusal::TooShort);
     }
     let mut pen = Pen { out, at: 0 };
-    put_file(&mut pen, trial.algo, trial.settings, trial.schedule);
+    put_file(&mut pen, trial.algo, &trial.settings, trial.schedule);
     Ok(pen.at)
 }

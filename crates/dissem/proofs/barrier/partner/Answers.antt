@@ -1,9 +1,10 @@
 -- `dissem::barrier::partner` meets its contract.
-use Rattle.std.proofs.Common.{◌≡◌, ℕ, ◌*◌, ◌%◌, ◌^◌, ◌≤◌, ◌<◌, arith, sym, ◌∙◌}
-use native.Mathlib.Nat.{mod-eq_of_lt, mod-eq-sub-mod}
+use Rattle.std.proofs.Common.{◌≡◌, ℕ, ◌*◌, ◌%◌, ◌^◌, ◌≤◌, ◌<◌, arith, sym}
+use native.Mathlib.Nat.{mod-eq_of_lt}
 use Rattle.rules.specs.Dissem.{doublings}
-use Rattle.rules.proofs.Levels.{doublings≤, round_below}
+use Rattle.rules.proofs.Levels.{doublings≤}
 use Rattle.turns.proofs.Words.{power}
+use Rattle.dissem.proofs.DissemFlags.{below_twice, once_off}
 use Rattle.dissem.proofs.barrier.partner.Goals as goal
 
 -- in each of the R rounds the power is below 2 ^ 64
@@ -19,17 +20,16 @@ overflow_shl-j c = shift< c.requires.procs c.requires.round
 
 pub overflow_add-j : goal.overflow_add-j
 overflow_add-j c =
-    omega (arith, shifted c.requires.procs c.requires.round, round_below c.args.procs c.args.k c.requires.round)
+    omega (arith, shifted c.requires.procs c.requires.round, below_twice c.args.w.number c.args.k c.args.procs c.requires.below c.requires.round)
 
 pub invariant_of-result : goal.invariant_of-result
 invariant_of-result c =
-    record { below = omega (arith, shifted c.requires.procs c.requires.round, round_below c.args.procs c.args.k c.requires.round) }
+    record { below = omega (arith, shifted c.requires.procs c.requires.round, below_twice c.args.w.number c.args.k c.args.procs c.requires.below c.requires.round) }
 
 pub returns-then-procs-j : goal.returns-then-procs-j
 returns-then-procs-j c =
     let p = shifted c.requires.procs c.requires.round in
-    let below = round_below c.args.procs c.args.k c.requires.round in
-    rw p (sym (mod-eq-sub-mod (omega (arith, p)) ∙ mod-eq_of_lt (omega arith)))
+    rw p (once_off _ _ (omega (arith, p)) (below_twice c.args.w.number c.args.k c.args.procs c.requires.below c.requires.round))
 
 pub returns : goal.returns
 returns c =

@@ -5,6 +5,9 @@ use Rattle.std.proofs.lemmas.Nat.{leading_length}
 use Rattle.rules.proofs.Levels.{doublings_is}
 use Rattle.dissem.proofs.doublings.levels.Goals as goal
 
+pub returns-then-procs-eq1 : goal.returns-then-procs-eq1
+returns-then-procs-eq1 c = doublings_is c.args.procs 0 (omega arith) (omega arith)
+
 pub returns : goal.returns
 returns c =
     let length = leading_length 16 (c.args.procs - 1) (omega arith) in
